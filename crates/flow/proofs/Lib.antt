@@ -1,0 +1,10 @@
+pub mod Sum
+pub mod Walk
+pub mod Count
+pub mod Test
+pub mod Bound
+pub mod Look
+pub mod LookStep
+pub mod Mend
+pub mod Cut
+pub mod Lists

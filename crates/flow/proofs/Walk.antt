@@ -1,0 +1,166 @@
+-- Walks along the arrows, and the pigeonhole principle. Assumes nothing.
+use mathlib.Core.Path.{_≡_, refl, sym, ap, _∙_, subst}
+use mathlib.Core.Bool.{Bool, true, false, not, cond, _||_, true≢false}
+use mathlib.Core.Logic.{_⊎_, inl, inr, _↔_}
+use Prim.Native.Nat.{ℕ, zero, suc, _+_, _-_, _≤_, _<_}
+use native.Mathlib.Omega.{arith}
+use native.Mathlib.Nat.{eq-or-lt-of-le, le-of-suc-le-suc, suc-add, zero-add, add-comm}
+use lib.Dec.{eqb, ltb}
+use borrow.Author.Tests.{eqb-true, eqb-false, eq-eqb, ne-eqb, ltb-true, ltb-false}
+use Rattle.flow.specs.Net.{on, sum, steps, Down, OnLoop, NoLoop, downIn, downb}
+use Rattle.flow.proofs.Sum.{test, same}
+
+pub below : (a b : ℕ) → (a < b) ⊎ (b ≤ a)
+below a b = elim (test (ltb a b)) [ inl e ↦ inl (ltb-true a b e) | inr e ↦ inr (ltb-false a b e) ]
+
+-- ---- the pigeonhole principle
+
+-- two places below m at which f is the same
+abbrev pub Twice : (ℕ → ℕ) → ℕ → Type 0
+Twice f m = (i : ℕ) × (j : ℕ) × (i < j) × (j < m) × (f i ≡ f j)
+
+-- some i below m at which f is v, or none
+pub find : (f : ℕ → ℕ) (v m : ℕ) → ((i : ℕ) × (i < m) × (f i ≡ v)) ⊎ ((i : ℕ) → i < m → f i ≡ v → ⊥)
+find f v zero = inr (λ i l e. omega arith)
+find f v (suc m) = go (find f v m) (same (f m) v)
+  where
+    go : ((i : ℕ) × (i < m) × (f i ≡ v)) ⊎ ((i : ℕ) → i < m → f i ≡ v → ⊥) → (f m ≡ v) ⊎ (f m ≡ v → ⊥)
+        → ((i : ℕ) × (i < suc m) × (f i ≡ v)) ⊎ ((i : ℕ) → i < suc m → f i ≡ v → ⊥)
+    go (inl h) s = inl (h .0, omega arith, h .2)
+    go (inr h) (inl e) = inl (m, omega arith, e)
+    go (inr h) (inr e) = inr (λ i l q. elim (eq-or-lt-of-le (le-of-suc-le-suc l)) [ inl x ↦ e (ap f (sym x) ∙ q) | inr x ↦ h i x q ])
+
+-- f with v put for m
+move : ℕ → ℕ → ℕ → ℕ
+move m v x = cond (eqb x m) v x
+
+move-at : (m v x : ℕ) → x ≡ m → move m v x ≡ v
+unfolding move
+move-at m v x e = rw (eq-eqb x m e)
+
+move-off : (m v x : ℕ) → (x ≡ m → ⊥) → move m v x ≡ x
+unfolding move
+move-off m v x e = rw (ne-eqb x m e)
+
+move-below : (n v x : ℕ) → v < suc n → x < suc n → (x ≡ v → ⊥) → move n v x < n
+move-below n v x lv lx d =
+    elim (same x n) [
+      | inl e ↦ let r : v ≡ n → ⊥ = λ q. d (e ∙ sym q) in omega (arith, move-at n v x e)
+      | inr e ↦ omega (arith, move-off n v x e)
+    ]
+
+move-inj : (n v x y : ℕ) → (x ≡ v → ⊥) → (y ≡ v → ⊥) → move n v x ≡ move n v y → x ≡ y
+move-inj n v x y dx dy m =
+    elim (same x n) [
+      | inl ex ↦ elim (same y n) [ inl ey ↦ ex ∙ sym ey | inr ey ↦ absurd (dy (sym (sym (move-at n v x ex) ∙ m ∙ move-off n v y ey))) ]
+      | inr ex ↦ elim (same y n) [ inl ey ↦ absurd (dx (sym (move-off n v x ex) ∙ m ∙ move-at n v y ey)) | inr ey ↦ sym (move-off n v x ex) ∙ m ∙ move-off n v y ey ]
+    ]
+
+pub pigeon : (n : ℕ) (f : ℕ → ℕ) → ((i : ℕ) → i < suc n → f i < n) → Twice f (suc n)
+pigeon zero f h = absurd (let l = h 0 (omega arith) in omega arith)
+pigeon (suc n) f h = go (find f (f (suc n)) (suc n))
+    (λ d. pigeon n (λ i. move n (f (suc n)) (f i)) (λ i l. move-below n (f (suc n)) (f i) (h (suc n) (omega arith)) (h i (omega arith)) (d i l)))
+  where
+    go : ((i : ℕ) × (i < suc n) × (f i ≡ f (suc n))) ⊎ ((i : ℕ) → i < suc n → f i ≡ f (suc n) → ⊥)
+        → (((i : ℕ) → i < suc n → f i ≡ f (suc n) → ⊥) → Twice (λ i. move n (f (suc n)) (f i)) (suc n))
+        → Twice f (suc (suc n))
+    go (inl s) ih = (s .0, suc n, s .1, omega arith, s .2)
+    go (inr d) ih =
+        let (i, j, l, lj, e) = ih d in
+        (i, j, l, omega arith, move-inj n (f (suc n)) (f i) (f j) (d i (omega arith)) (d j lj) e)
+
+-- ---- walks
+
+pub steps-add : (to : ℕ → ℕ) (j k p : ℕ) → steps to (j + k) p ≡ steps to k (steps to j p)
+unfolding steps
+steps-add to zero k p = rw zero-add
+steps-add to (suc j) k p = rw suc-add (steps-add to j k (to p))
+
+pub steps-suc : (to : ℕ → ℕ) (k p : ℕ) → steps to (suc k) p ≡ to (steps to k p)
+unfolding steps
+steps-suc to zero p = refl
+steps-suc to (suc k) p = steps-suc to k (to p)
+
+-- a walk's parts by the number of its steps
+pub steps-cut : (to : ℕ → ℕ) {i j : ℕ} (p : ℕ) → i ≤ j → steps to j p ≡ steps to (j - i) (steps to i p)
+steps-cut to {i} {j} p l = let e : j ≡ i + (j - i) = omega arith in ap (λ (m : ℕ). steps to m p) e ∙ steps-add to i (j - i) p
+
+-- a loop gone round from any of its cells
+pub loop-on : (to : ℕ → ℕ) (p k i : ℕ) → steps to k p ≡ p → steps to k (steps to i p) ≡ steps to i p
+loop-on to p k i e = sym (steps-add to i k p) ∙ ap (λ (m : ℕ). steps to m p) (add-comm i k) ∙ steps-add to k i p ∙ ap (steps to i) e
+
+pub down-of : (to : ℕ → ℕ) {k : ℕ} (p q : ℕ) → 0 < k → steps to k p ≡ q → Down to p q
+down-of to {k} p q l e = let s : suc (k - 1) ≡ k = omega arith in (k - 1, ap (λ (m : ℕ). steps to m p) s ∙ e)
+
+-- two places of one walk that are the same cell: a loop
+pub loop-of : (to : ℕ → ℕ) {i j : ℕ} (p : ℕ) → i < j → steps to i p ≡ steps to j p → Down to (steps to i p) (steps to i p)
+loop-of to {i} {j} p l e = down-of to (steps to i p) (steps to i p) (omega arith) (sym (steps-cut to p (omega arith)) ∙ sym e)
+
+-- the test `downIn` says what it should
+pub downIn-says : (to : ℕ → ℕ) (k p q : ℕ) → downIn to k p q ≡ true → (i : ℕ) × (i < k) × (steps to (suc i) p ≡ q)
+unfolding steps downIn
+downIn-says to zero p q e = absurd (true≢false (sym e))
+downIn-says to (suc k) p q e =
+    elim (test (eqb (to p) q)) [
+      | inl t ↦ (0, omega arith, eqb-true (to p) q t)
+      | inr t ↦ let (i, l, s) = downIn-says to k (to p) q (sym (rw t) ∙ e) in (suc i, omega arith, s)
+    ]
+
+pub downIn-of : (to : ℕ → ℕ) (k i p q : ℕ) → i < k → steps to (suc i) p ≡ q → downIn to k p q ≡ true
+unfolding steps downIn
+downIn-of to zero i p q l e = absurd (omega arith)
+downIn-of to (suc k) zero p q l e = rw (eq-eqb (to p) q e)
+downIn-of to (suc k) (suc i) p q l e = elim (test (eqb (to p) q)) [ inl t ↦ rw t | inr t ↦ rw t (downIn-of to k i (to p) q (omega arith) e) ]
+
+module _ (n : ℕ) (to : ℕ → ℕ) (out : (p : ℕ) → n ≤ p → n ≤ to p) where
+  pub stay-out : (k p : ℕ) → n ≤ p → n ≤ steps to k p
+  unfolding steps
+  stay-out zero p h = h
+  stay-out (suc k) p h = stay-out k (to p) (out p h)
+
+  -- each cell on a walk that ends inside lies inside
+  pub inside : (k p : ℕ) → steps to k p < n → p < n
+  inside k p h = elim (below p n) [ inl l ↦ l | inr l ↦ omega (arith, stay-out k p l) ]
+
+  pub inside-one : (p : ℕ) → to p < n → p < n
+  inside-one p h = elim (below p n) [ inl l ↦ l | inr l ↦ omega (arith, out p l) ]
+
+  pub down-inside : (p q : ℕ) → q < n → Down to p q → to p < n
+  unfolding steps
+  down-inside p q l d = inside (d .0) (to p) (omega (arith, d .1))
+
+  pub inside-at : {i j : ℕ} (p : ℕ) → i ≤ j → steps to j p < n → steps to i p < n
+  inside-at {i} {j} p l h = inside (j - i) (steps to i p) (rw (steps-cut to p l) at h)
+
+  -- a walk of n steps that stays inside comes to a loop
+  pub reaches-loop : (p : ℕ) → steps to n p < n → (i : ℕ) × (i < n) × OnLoop n to (steps to i p)
+  reaches-loop p h =
+      let (i, j, l, lj, e) = pigeon n (λ i. steps to i p) (λ i l. inside-at p (omega arith) h) in
+      (i, omega arith, (inside-at p (omega arith) h, loop-of to p l e))
+
+  pub leaves : NoLoop n to → (p : ℕ) → n ≤ steps to n p
+  leaves free p = elim (below (steps to n p) n) [ inl l ↦ (let (i, li, o) = reaches-loop p l in absurd (free (steps to i p) (o .0) (o .1))) | inr l ↦ l ]
+
+  -- a walk to q, however long, has a part of at most n steps to q
+  shorten : (fuel k p q : ℕ) → k < fuel → steps to (suc k) p ≡ q → q < n → (i : ℕ) × (i < n) × (steps to (suc i) p ≡ q)
+  shorten zero k p q l e lq = absurd (omega arith)
+  shorten (suc fuel) k p q l e lq =
+      elim (below k n) [
+        | inl s ↦ (k, s, e)
+        | inr s ↦
+            let here : steps to (suc k) p < n = omega arith in
+            let (i, j, li, lj, t) = pigeon n (λ i. steps to i p) (λ i l. inside-at p (omega arith) here) in
+            shorten fuel (i + (k - j)) p q (omega arith)
+            (ap (λ (m : ℕ). steps to m p) (let z : suc (i + (k - j)) ≡ i + (suc k - j) = omega arith in z)
+            ∙ steps-add to i (suc k - j) p ∙ ap (steps to (suc k - j)) t ∙ sym (steps-cut to p (omega arith)) ∙ e) lq
+      ]
+
+  pub down-short : (p q : ℕ) → q < n → Down to p q → (i : ℕ) × (i < n) × (steps to (suc i) p ≡ q)
+  down-short p q l d = shorten (suc (d .0)) (d .0) p q (omega arith) (d .1) l
+
+  pub downb-iff : (p q : ℕ) → q < n → (downb n to p q ≡ true) ↔ Down to p q
+  unfolding downb
+  downb-iff p q l = (
+    λ e. let (i, li, s) = downIn-says to n p q e in (i, s),
+    λ d. let (i, li, s) = down-short p q l d in downIn-of to n i p q li s,
+  )
