@@ -2,6 +2,8 @@ pub mod Sum
 pub mod Walk
 pub mod Count
 pub mod Test
+pub mod Loop
+pub mod LoopLength
 pub mod Bound
 pub mod Look
 pub mod LookStep

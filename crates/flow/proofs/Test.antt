@@ -47,6 +47,19 @@ unfolding allb
 allb-of zero f h = refl
 allb-of (suc n) f h = rw (h n (omega arith)) (allb-of n f (λ p l. h p (omega arith)))
 
+-- the first number below n at which f passes, if there is one
+pub first-passing : (n : ℕ) (f : ℕ → Bool)
+    → ((p : ℕ) → p < n → f p ≡ false) ⊎ ((p : ℕ) × (p < n) × (f p ≡ true) × ((q : ℕ) → q < p → f q ≡ false))
+first-passing zero f = inl (λ p l. absurd (omega arith))
+first-passing (suc n) f =
+    elim (first-passing n f) [
+      | inl no-other ↦ elim (test (f n)) [
+        | inl t ↦ inr (n, omega arith, t, no-other)
+        | inr t ↦ inl (λ p l. elim (eq-or-lt-of-le (le-of-suc-le-suc l)) [ inl e ↦ ap f e ∙ t | inr k ↦ no-other p k ])
+      ]
+      | inr s ↦ inr (s .0, omega arith, s .2, s .3)
+    ]
+
 pub countsb-iff : (n : ℕ) (to w c : ℕ → ℕ) → (countsb n to w c ≡ true) ↔ Counts n to w c
 unfolding countsb
 countsb-iff n to w c = (λ h p l. eqb-true _ _ (allb-says n _ h p l), λ h. allb-of n _ (λ p l. eq-eqb _ _ (h p l)))
