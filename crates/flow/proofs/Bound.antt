@@ -11,7 +11,7 @@ use Rattle.flow.proofs.Sum.{on-true, on-false, on-split, sum-ext, sum-a
 use Rattle.flow.proofs.Walk.{below}
 use Rattle.flow.proofs.Count.{through, eqb-sym, on-on, counts-through, through-add, through-passes}
 
-on-le : (b : Bool) (x : ℕ) → on b x ≤ x
+pub on-le : (b : Bool) (x : ℕ) → on b x ≤ x
 on-le true x = omega arith
 on-le false x = omega arith
 

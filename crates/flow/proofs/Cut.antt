@@ -35,7 +35,7 @@ module _ (n : ℕ) (to : ℕ → ℕ) (cut : ℕ → Bool) where
   unfolding kept
   kept-out out p h = elim (test (cut p)) [ inl e ↦ rw e (omega arith) | inr e ↦ rw e (out p h) ]
 
-  kept-one : (p : ℕ) → kept n to cut p < n → kept n to cut p ≡ to p
+  pub kept-one : (p : ℕ) → kept n to cut p < n → kept n to cut p ≡ to p
   unfolding kept
   kept-one p h = elim (test (cut p)) [ inl e ↦ absurd (let r = rw e at h in omega arith) | inr e ↦ rw e ]
 

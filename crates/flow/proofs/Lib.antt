@@ -7,6 +7,9 @@ pub mod LoopLength
 pub mod Bound
 pub mod Look
 pub mod LookStep
+pub mod Wait
+pub mod Scan
+pub mod LookBound
 pub mod Mend
 pub mod Cut
 pub mod Lists
