@@ -7,9 +7,10 @@ use native.Mathlib.Omega.{arith}
 use lib.Dec.{eqb, ltb}
 use borrow.Author.Tests.{lt-ltb, le-ltb}
 use Rattle.flow.specs.Net.{on, sum, steps, given, Counts, NoLoop, downb}
-use Rattle.flow.proofs.Sum.{on-true, on-false, on-split, sum-ext, sum-add, sum-mono, sum-swap, sum-delta, sum-delta-out}
+use Rattle.flow.proofs.Sum.{on-true, on-false, on-on, on-split, eqb-sym, sum-ext, sum-add, sum-mono, sum-swap, sum-delta, sum-delta-out}
 use Rattle.flow.proofs.Walk.{below}
-use Rattle.flow.proofs.Count.{through, eqb-sym, on-on, counts-through, through-add, through-passes}
+use Rattle.flow.proofs.Through.{through, through-add}
+use Rattle.flow.proofs.Passes.{through-passes, counts-passes}
 
 pub on-le : (b : Bool) (x : ℕ) → on b x ≤ x
 on-le true x = omega arith
@@ -38,7 +39,7 @@ module _ (n : ℕ) (to : ℕ → ℕ) (out : (p : ℕ) → n ≤ p → n ≤ to 
   pub counts-bound : (w c : ℕ → ℕ) → Counts n to w c → (p : ℕ) → p < n → c p ≤ sum n w
   counts-bound w c h p l =
       let m : sum n (λ q. on (eqb q p || downb n to q p) (w q)) ≤ sum n w = sum-mono (λ q lq. on-le (eqb q p || downb n to q p) (w q)) in
-      omega (arith, counts-through n to out free w c h p l, through-passes n to out free w p l)
+      omega (arith, counts-passes n to out free w c h p l)
 
   -- v more at a is v more at a and at each cell downstream of a, and at no other
   pub through-extra : (w : ℕ → ℕ) (a v : ℕ) → a < n → (p : ℕ) → p < n

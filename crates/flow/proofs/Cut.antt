@@ -9,7 +9,8 @@ use borrow.Author.Tests.{ne-eqb}
 use Rattle.flow.specs.Net.{on, sum, steps, given, Counts, NoLoop}
 use Rattle.flow.proofs.Sum.{test, sum-ext, sum-add, on-ne}
 use Rattle.flow.proofs.Walk.{inside}
-use Rattle.flow.proofs.Count.{through, counts-through, through-add}
+use Rattle.flow.proofs.Through.{through, through-add}
+use Rattle.flow.proofs.Count.{counts-through}
 
 -- the net without the arrows that are cut
 unfoldable pub kept : ℕ → (ℕ → ℕ) → (ℕ → Bool) → ℕ → ℕ

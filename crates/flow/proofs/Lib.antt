@@ -1,6 +1,9 @@
 pub mod Sum
+pub mod Pigeon
 pub mod Walk
+pub mod Through
 pub mod Count
+pub mod Passes
 pub mod Test
 pub mod Loop
 pub mod LoopLength

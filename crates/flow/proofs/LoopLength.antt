@@ -8,9 +8,8 @@ use native.Mathlib.Omega.{arith}
 use lib.Dec.{eqb}
 use borrow.Author.Tests.{eq-eqb, ne-eqb}
 use Rattle.flow.specs.Net.{on, sum, steps, Down, OnLoop, downb, loopLength}
-use Rattle.flow.proofs.Sum.{test, same, on-true, on-false, on-ne, sum-ext, sum-ones, sum-none, sum-swap, sum-delta}
+use Rattle.flow.proofs.Sum.{test, same, eqb-sym, on-true, on-false, on-ne, sum-ext, sum-ones, sum-none, sum-swap, sum-delta}
 use Rattle.flow.proofs.Walk.{steps-add, steps-suc, steps-cut, down-of, inside-at, down-short, downb-iff}
-use Rattle.flow.proofs.Count.{eqb-sym}
 
 and-iff : (a b : Bool) → (a && b ≡ true) ↔ ((a ≡ true) × (b ≡ true))
 and-iff true b = (λ e. (refl, e), λ e. e .1)

@@ -6,7 +6,8 @@ use Prim.Native.Nat.{ℕ, _+_, _≤_, _<_}
 use native.Mathlib.Omega.{arith}
 use Rattle.flow.specs.Net.{given, Counts, OnLoop, NoLoop, loopLength, FirstLoop}
 use Rattle.flow.proofs.Sum.{same, on-ne, sum-none}
-use Rattle.flow.proofs.Walk.{find, down-inside}
+use Rattle.flow.proofs.Pigeon.{find}
+use Rattle.flow.proofs.Walk.{down-inside}
 use Rattle.flow.proofs.Look.{zero-iff-loop}
 use Rattle.flow.proofs.LookStep.{Looked}
 use Rattle.flow.proofs.Wait.{Waits, waits-less}

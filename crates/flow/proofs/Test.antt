@@ -10,7 +10,8 @@ use borrow.Author.Tests.{eqb-true, eq-eqb, lt-ltb, le-ltb, not-true, not-false}
 use Rattle.flow.specs.Net.{on, sum, steps, given, Counts, Down, OnLoop, NoLoop, downb}
 use Rattle.flow.proofs.Sum.{test, on-true, on-false, sum-first, sum-suc}
 use Rattle.flow.proofs.Walk.{downb-iff, leaves}
-use Rattle.flow.proofs.Count.{through, weighted-no-loop, through-counts}
+use Rattle.flow.proofs.Through.{through}
+use Rattle.flow.proofs.Count.{weighted-no-loop, through-counts}
 
 -- p is downstream of itself
 unfoldable pub onLoopb : ℕ → (ℕ → ℕ) → ℕ → Bool
