@@ -14,5 +14,7 @@ pub mod Wait
 pub mod Scan
 pub mod LookBound
 pub mod Mend
+pub mod Alike
+pub mod Without
 pub mod Cut
 pub mod Lists

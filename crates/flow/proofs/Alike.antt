@@ -1,0 +1,66 @@
+-- Two nets that differ at one cell t: the counts are the same at each cell that is neither t nor downstream of t.
+-- Assumes nothing.
+use mathlib.Core.Path.{_≡_, refl, sym, ap, _∙_}
+use mathlib.Core.Bool.{true, false, _||_, true≢false}
+use mathlib.Core.Logic.{inl, inr, _↔_}
+use Prim.Native.Nat.{ℕ, zero, suc, _≤_, _<_}
+use native.Mathlib.Omega.{arith}
+use lib.Dec.{eqb}
+use borrow.Author.Tests.{ne-eqb}
+use Rattle.flow.specs.Net.{on, steps, Counts, Down, NoLoop, downb}
+use Rattle.flow.proofs.Sum.{test-iff, same, sum-ext}
+use Rattle.flow.proofs.Walk.{inside, inside-one, downb-iff}
+use Rattle.flow.proofs.Passes.{counts-passes}
+
+-- the same arrows between cells other than t. An arrow onto t may go nowhere in the other net: so it does where t is absent there
+abbrev pub Alike : ℕ → ℕ → (ℕ → ℕ) → (ℕ → ℕ) → Type 0
+Alike n t to to' = (q r : ℕ) → q < n → r < n → (q ≡ t → ⊥) → (r ≡ t → ⊥) → (to q ≡ r) ↔ (to' q ≡ r)
+
+-- nets that agree at each cell but t
+pub alike-of : (n t : ℕ) (to to' : ℕ → ℕ) → ((q : ℕ) → q < n → (q ≡ t → ⊥) → to' q ≡ to q) → Alike n t to to'
+alike-of n t to to' h q r lq lr dq dr = (λ e. h q lq dq ∙ e, λ e. sym (h q lq dq) ∙ e)
+
+pub alike-sym : (n t : ℕ) (to to' : ℕ → ℕ) → Alike n t to to' → Alike n t to' to
+alike-sym n t to to' h q r lq lr dq dr = let (a, b) = h q r lq lr dq dr in (b, a)
+
+-- a walk to a cell that is neither t nor downstream of t does not come to t, so it is a walk of both nets
+module _ (n t : ℕ) (to to' : ℕ → ℕ) (out : (p : ℕ) → n ≤ p → n ≤ to p) (alike : Alike n t to to') (p : ℕ) (l : p < n) (off : p ≡ t → ⊥) (above : Down to t p → ⊥) where
+  not-over : (k q : ℕ) → steps to k q ≡ p → q ≡ t → ⊥
+  unfolding steps
+  not-over zero q e x = off (sym e ∙ x)
+  not-over (suc k) q e x = above (k, ap (steps to (suc k)) (sym x) ∙ e)
+
+  same-walk : (k q : ℕ) → steps to k q ≡ p → steps to' k q ≡ p
+  unfolding steps
+  same-walk zero q e = e
+  same-walk (suc k) q e =
+      let next : to q < n = inside n to out k (to q) (omega arith) in
+      ap (steps to' k) (alike q (to q) (inside-one n to out q next) next (not-over (suc k) q e) (not-over k (to q) e) .0 refl) ∙ same-walk k (to q) e
+
+  pub same-down : (q : ℕ) → Down to q p → Down to' q p
+  same-down q (k, e) = (k, same-walk (suc k) q e)
+
+module _ (n t : ℕ) (to to' : ℕ → ℕ) (out : (p : ℕ) → n ≤ p → n ≤ to p) (out' : (p : ℕ) → n ≤ p → n ≤ to' p) (alike : Alike n t to to') where
+  -- the same cells have p downstream in both nets
+  same-downb : (p : ℕ) → p < n → (p ≡ t → ⊥) → downb n to t p ≡ false → downb n to' t p ≡ false → (q : ℕ) → downb n to q p ≡ downb n to' q p
+  same-downb p l off above above' q =
+      let (a, b) = downb-iff n to out q p l in
+      let (a', b') = downb-iff n to' out' q p l in
+      let dry : Down to t p → ⊥ = λ d. true≢false (sym (downb-iff n to out t p l .1 d) ∙ above) in
+      let dry' : Down to' t p → ⊥ = λ d. true≢false (sym (downb-iff n to' out' t p l .1 d) ∙ above') in
+      test-iff _ _ (
+        λ e. b' (same-down n t to to' out alike p l off dry q (a e)),
+        λ e. b (same-down n t to' to out' (alike-sym n t to to' alike) p l off dry' q (a' e)),
+      )
+
+  -- a change at t changes no count but at t and downstream of t, before the change or after
+  pub differs-only : NoLoop n to → NoLoop n to' → (w w' : ℕ → ℕ) → ((q : ℕ) → q < n → (q ≡ t → ⊥) → w' q ≡ w q)
+      → (c d : ℕ → ℕ) → Counts n to w c → Counts n to' w' d
+      → (p : ℕ) → p < n → (p ≡ t → ⊥) → downb n to t p ≡ false → downb n to' t p ≡ false → c p ≡ d p
+  differs-only free free' w w' weights c d hc hd p l off above above' =
+      counts-passes n to out free w c hc p l
+      ∙ sum-ext (λ q lq. elim (same q t) [
+        | inl e ↦ rw (ne-eqb q p (λ x. off (sym x ∙ e)), ap (λ (r : ℕ). downb n to r p) e ∙ above, ap (λ (r : ℕ). downb n to' r p) e ∙ above')
+        | inr e ↦ rw (same-downb p l off above above' q, weights q lq e)
+      ])
+      ∙ sym (counts-passes n to' out' free' w' d hd p l)
