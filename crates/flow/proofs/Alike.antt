@@ -40,6 +40,20 @@ module _ (n t : ℕ) (to to' : ℕ → ℕ) (out : (p : ℕ) → n ≤ p → n �
   pub same-down : (q : ℕ) → Down to q p → Down to' q p
   same-down q (k, e) = (k, same-walk (suc k) q e)
 
+-- a walk that never comes to t is one of both nets too
+module _ (n t : ℕ) (to to' : ℕ → ℕ) (out : (p : ℕ) → n ≤ p → n ≤ to p) (alike : Alike n t to to') where
+  away-walk : (k q : ℕ) → (q ≡ t → ⊥) → (Down to q t → ⊥) → steps to k q < n → steps to' k q ≡ steps to k q
+  unfolding steps
+  away-walk zero q off never l = refl
+  away-walk (suc k) q off never l =
+      let next : to q < n = inside n to out k (to q) l in
+      let off-next : to q ≡ t → ⊥ = λ e. never (0, e) in
+      ap (steps to' k) (alike q (to q) (inside-one n to out q next) next off off-next .0 refl)
+      ∙ away-walk k (to q) off-next (λ (j, e). never (suc j, e)) l
+
+  pub away-down : (q p : ℕ) → (q ≡ t → ⊥) → (Down to q t → ⊥) → p < n → Down to q p → Down to' q p
+  away-down q p off never l (k, e) = (k, away-walk (suc k) q off never (omega arith) ∙ e)
+
 module _ (n t : ℕ) (to to' : ℕ → ℕ) (out : (p : ℕ) → n ≤ p → n ≤ to p) (out' : (p : ℕ) → n ≤ p → n ≤ to' p) (alike : Alike n t to to') where
   -- the same cells have p downstream in both nets
   same-downb : (p : ℕ) → p < n → (p ≡ t → ⊥) → downb n to t p ≡ false → downb n to' t p ≡ false → (q : ℕ) → downb n to q p ≡ downb n to' q p

@@ -4,7 +4,7 @@ use Prim.Native.Nat.{ℕ, zero, suc, _+_, _≤_, _<_}
 use native.Mathlib.Omega.{arith}
 use lib.Dec.{eqb}
 use Rattle.flow.specs.Net.{on, sum, steps, given, Counts, OnLoop, NoLoop}
-use Rattle.flow.proofs.Sum.{on-eq, sum-ext, sum-suc, sum-first, sum-at-least}
+use Rattle.flow.proofs.Sum.{on-eq, on-ne, sum-ext, sum-suc, sum-first, sum-at-least, sum-change}
 use Rattle.flow.proofs.Walk.{steps-suc, inside, inside-one, down-inside}
 use Rattle.flow.proofs.Through.{level, through, level-zero, level-add, level-ext, level-end, level-given, given-level, given-sum}
 
@@ -13,6 +13,15 @@ module _ (n : ℕ) (to : ℕ → ℕ) where
   pub gives : (c : ℕ → ℕ) (p q : ℕ) → q < n → to q ≡ p → c q ≤ given n to c p
   unfolding given
   gives c p q l e = omega (arith, sum-at-least n q (λ q. on (eqb (to q) p) (c q)) l, on-eq (to q) p (c q) e)
+
+  -- d is c with another value at t: what is given differs only at the cell that t's arrow ends at
+  module _ (c d : ℕ → ℕ) (t : ℕ) (lt : t < n) (other : (q : ℕ) → q < n → (q ≡ t → ⊥) → d q ≡ c q) where
+    pub given-change : (p : ℕ) → given n to d p + on (eqb (to t) p) (c t) ≡ given n to c p + on (eqb (to t) p) (d t)
+    unfolding given
+    given-change p = sum-change lt (λ q l h. rw (other q l h))
+
+    pub given-still : (p : ℕ) → (to t ≡ p → ⊥) → given n to d p ≡ given n to c p
+    given-still p e = omega (arith, given-change p, on-ne (to t) p (c t) e, on-ne (to t) p (d t) e)
 
   module _ (out : (p : ℕ) → n ≤ p → n ≤ to p) where
     -- a count is what comes in fewer than k steps, and what the cells k steps before hold

@@ -16,5 +16,6 @@ pub mod LookBound
 pub mod Mend
 pub mod Alike
 pub mod Without
+pub mod Close
 pub mod Cut
 pub mod Lists

@@ -6,6 +6,7 @@ use native.Mathlib.Omega.{arith}
 use lib.Dec.{eqb}
 use Rattle.flow.specs.Net.{on, sum, number, given}
 use Rattle.flow.proofs.Sum.{same, on-eq, on-ne, sum-change}
+use Rattle.flow.proofs.Count.{given-still}
 
 -- how many cells hold 0
 unfoldable pub zeros : ℕ → (ℕ → ℕ) → ℕ
@@ -20,13 +21,7 @@ pub record Looked (n : ℕ) (to w c : ℕ → ℕ) : Type 0 where
 module _ (n : ℕ) (to w c d : ℕ → ℕ) (t : ℕ) (lt : t < n) (zero-at : c t ≡ 0) (givers : (q : ℕ) → q < n → to q ≡ t → c q ≡ 0 → ⊥)
     (other : (q : ℕ) → q < n → (q ≡ t → ⊥) → d q ≡ c q) (new : d t ≡ w t + given n to c t) where
   still : (p : ℕ) → (to t ≡ p → ⊥) → given n to d p ≡ given n to c p
-  unfolding given
-  still p e = omega (
-    arith,
-    sum-change {f = λ q. on (eqb (to q) p) (d q)} {g = λ q. on (eqb (to q) p) (c q)} lt (λ q l h. rw (other q l h)),
-    on-ne (to t) p (c t) e,
-    on-ne (to t) p (d t) e,
-  )
+  still = given-still n to c d t lt other
 
   pub look-step : Looked n to w c → Looked n to w d
   look-step s = record {

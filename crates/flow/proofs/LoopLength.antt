@@ -59,6 +59,12 @@ module _ (to : ℕ → ℕ) (k p : ℕ) (back : steps to (suc k) p ≡ p) where
           | inr x ↦ ap (λ b. on b 1) (ne-eqb _ _ (λ y. x (different m i lm l (y ∙ sym (e ∙ d)))) ∙ sym (ne-eqb m i x))
         ]) ∙ sum-delta (suc k) i (λ m. 1) l
 
+-- from any cell downstream of a loop's cell the way leads back to it
+pub loop-back : (to : ℕ → ℕ) (p q : ℕ) → Down to p p → Down to p q → Down to q p
+loop-back to p q (k, back) (j, d) =
+    let (i, l, e) = first-round to k p back (suc j) in
+    rw (e ∙ d) at (met to k p back i l .1)
+
 module _ (n : ℕ) (to : ℕ → ℕ) (out : (p : ℕ) → n ≤ p → n ≤ to p) where
   -- the test by which `loopLength` counts
   pub loopLength-says : (p q : ℕ) → p < n → q < n → (downb n to p q && downb n to q p ≡ true) ↔ (Down to p q × Down to q p)

@@ -1,0 +1,38 @@
+-- Which loops a cell closes when it is put into a net without loops: those that go through it, and so at most one.
+-- Assumes nothing.
+use mathlib.Core.Path.{_≡_, sym, ap, _∙_}
+use mathlib.Core.Bool.{true, false, true≢false}
+use mathlib.Core.Logic.{inl, inr, _↔_}
+use Prim.Native.Nat.{ℕ, suc, _≤_, _<_}
+use native.Mathlib.Omega.{arith}
+use Rattle.flow.specs.Net.{steps, Down, OnLoop, NoLoop, downb}
+use Rattle.flow.proofs.Sum.{test, same}
+use Rattle.flow.proofs.Walk.{stay-out, downb-iff}
+use Rattle.flow.proofs.Loop.{down-trans}
+use Rattle.flow.proofs.LoopLength.{loop-back}
+use Rattle.flow.proofs.Alike.{alike-sym, same-down, away-down}
+use Rattle.flow.proofs.Without.{Without}
+
+-- the net to' is the net to without t
+module _ (n t : ℕ) (to w to' w' : ℕ → ℕ) (out : (p : ℕ) → n ≤ p → n ≤ to p) (out' : (p : ℕ) → n ≤ p → n ≤ to' p) (lt : t < n) (s : Without n t to w to' w') where
+  -- taking a cell out closes no loop
+  pub without-free : NoLoop n to → NoLoop n to'
+  unfolding steps
+  without-free free p l d =
+      let ends : (q : ℕ) → q < n → Down to' t q → ⊥ = λ q lq (k, e). omega (arith, stay-out n to' out' k (to' t) (s .gone)) in
+      free p l (same-down n t to' to out' (alike-sym n t to to' (s .alike)) p l (λ e. ends t lt (rw e at d)) (ends p l) p d)
+
+  -- each loop that putting t in closes goes through t
+  pub closes : NoLoop n to' → (p : ℕ) → OnLoop n to p → Down to t p × Down to p t
+  closes free p (l, d) =
+      elim (same p t) [
+        | inl e ↦ rw e (rw e at d, rw e at d)
+        | inr e ↦ elim (test (downb n to p t)) [
+          | inl h ↦ (let m : Down to p t = downb-iff n to out p t lt .0 h in (loop-back to p t d m, m))
+          | inr h ↦ absurd (free p l (away-down n t to to' out (s .alike) p p e (λ m. true≢false (sym (downb-iff n to out p t lt .1 m) ∙ h)) l d))
+        ]
+      ]
+
+  -- so there is one exactly when t is then downstream of itself
+  pub closes-iff : NoLoop n to' → NoLoop n to ↔ (Down to t t → ⊥)
+  closes-iff free = (λ h. h t lt, λ h p l d. let (a, b) = closes free p (l, d) in h (down-trans to t p t a b))
