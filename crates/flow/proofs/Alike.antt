@@ -1,13 +1,12 @@
 -- Two nets that differ at one cell t: the counts are the same at each cell that is neither t nor downstream of t.
 -- Assumes nothing.
 use mathlib.Core.Path.{_≡_, refl, sym, ap, _∙_}
-use mathlib.Core.Bool.{true, false, _||_, true≢false}
+use mathlib.Core.Bool.{false, true≢false}
 use mathlib.Core.Logic.{inl, inr, _↔_}
 use Prim.Native.Nat.{ℕ, zero, suc, _≤_, _<_}
 use native.Mathlib.Omega.{arith}
-use lib.Dec.{eqb}
 use borrow.Author.Tests.{ne-eqb}
-use Rattle.flow.specs.Net.{on, steps, Counts, Down, NoLoop, downb}
+use Rattle.flow.specs.Net.{steps, Counts, Down, NoLoop, downb}
 use Rattle.flow.proofs.Sum.{test-iff, same, sum-ext}
 use Rattle.flow.proofs.Walk.{inside, inside-one, downb-iff}
 use Rattle.flow.proofs.Passes.{counts-passes}
@@ -20,6 +19,7 @@ Alike n t to to' = (q r : ℕ) → q < n → r < n → (q ≡ t → ⊥) → (r 
 pub alike-of : (n t : ℕ) (to to' : ℕ → ℕ) → ((q : ℕ) → q < n → (q ≡ t → ⊥) → to' q ≡ to q) → Alike n t to to'
 alike-of n t to to' h q r lq lr dq dr = (λ e. h q lq dq ∙ e, λ e. sym (h q lq dq) ∙ e)
 
+-- either way round
 pub alike-sym : (n t : ℕ) (to to' : ℕ → ℕ) → Alike n t to to' → Alike n t to' to
 alike-sym n t to to' h q r lq lr dq dr = let (a, b) = h q r lq lr dq dr in (b, a)
 
@@ -37,6 +37,7 @@ module _ (n t : ℕ) (to to' : ℕ → ℕ) (out : (p : ℕ) → n ≤ p → n �
       let next : to q < n = inside n to out k (to q) (omega arith) in
       ap (steps to' k) (alike q (to q) (inside-one n to out q next) next (not-over (suc k) q e) (not-over k (to q) e) .0 refl) ∙ same-walk k (to q) e
 
+  -- so what has p downstream in the one net has it in the other
   pub same-down : (q : ℕ) → Down to q p → Down to' q p
   same-down q (k, e) = (k, same-walk (suc k) q e)
 
@@ -51,6 +52,7 @@ module _ (n t : ℕ) (to to' : ℕ → ℕ) (out : (p : ℕ) → n ≤ p → n �
       ap (steps to' k) (alike q (to q) (inside-one n to out q next) next off off-next .0 refl)
       ∙ away-walk k (to q) off-next (λ (j, e). never (suc j, e)) l
 
+  -- so what is downstream of such a cell in the one net is so in the other
   pub away-down : (q p : ℕ) → (q ≡ t → ⊥) → (Down to q t → ⊥) → p < n → Down to q p → Down to' q p
   away-down q p off never l (k, e) = (k, away-walk (suc k) q off never (omega arith) ∙ e)
 

@@ -1,17 +1,18 @@
 -- Bounds and balances of counts. Assumes nothing.
-use mathlib.Core.Path.{_≡_, refl, sym, ap, _∙_}
+use mathlib.Core.Path.{_≡_, sym, ap, _∙_}
 use mathlib.Core.Bool.{Bool, true, false, not, _||_}
-use mathlib.Core.Logic.{_⊎_, inl, inr}
-use Prim.Native.Nat.{ℕ, zero, suc, _+_, _≤_, _<_}
+use mathlib.Core.Logic.{inl, inr}
+use Prim.Native.Nat.{ℕ, _+_, _≤_, _<_}
 use native.Mathlib.Omega.{arith}
 use lib.Dec.{eqb, ltb}
 use borrow.Author.Tests.{lt-ltb, le-ltb}
-use Rattle.flow.specs.Net.{on, sum, steps, given, Counts, NoLoop, downb}
+use Rattle.flow.specs.Net.{on, sum, given, Counts, NoLoop, downb}
 use Rattle.flow.proofs.Sum.{on-true, on-false, on-on, on-split, eqb-sym, sum-ext, sum-add, sum-mono, sum-swap, sum-delta, sum-delta-out}
 use Rattle.flow.proofs.Walk.{below}
 use Rattle.flow.proofs.Through.{through, through-add}
 use Rattle.flow.proofs.Passes.{through-passes, counts-passes}
 
+-- a test takes away at most
 pub on-le : (b : Bool) (x : ℕ) → on b x ≤ x
 on-le true x = omega arith
 on-le false x = omega arith

@@ -1,9 +1,9 @@
 -- Which loops a cell closes when it is put into a net without loops: those that go through it, and so at most one.
 -- Assumes nothing.
-use mathlib.Core.Path.{_≡_, sym, ap, _∙_}
-use mathlib.Core.Bool.{true, false, true≢false}
+use mathlib.Core.Path.{sym, _∙_}
+use mathlib.Core.Bool.{true≢false}
 use mathlib.Core.Logic.{inl, inr, _↔_}
-use Prim.Native.Nat.{ℕ, suc, _≤_, _<_}
+use Prim.Native.Nat.{ℕ, _≤_, _<_}
 use native.Mathlib.Omega.{arith}
 use Rattle.flow.specs.Net.{steps, Down, OnLoop, NoLoop, downb}
 use Rattle.flow.proofs.Sum.{test, same}

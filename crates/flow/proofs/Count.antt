@@ -16,10 +16,12 @@ module _ (n : ℕ) (to : ℕ → ℕ) where
 
   -- d is c with another value at t: what is given differs only at the cell that t's arrow ends at
   module _ (c d : ℕ → ℕ) (t : ℕ) (lt : t < n) (other : (q : ℕ) → q < n → (q ≡ t → ⊥) → d q ≡ c q) where
+    -- what t held and what it holds now stand for the difference
     pub given-change : (p : ℕ) → given n to d p + on (eqb (to t) p) (c t) ≡ given n to c p + on (eqb (to t) p) (d t)
     unfolding given
     given-change p = sum-change lt (λ q l h. rw (other q l h))
 
+    -- elsewhere the same is given
     pub given-still : (p : ℕ) → (to t ≡ p → ⊥) → given n to d p ≡ given n to c p
     given-still p e = omega (arith, given-change p, on-ne (to t) p (c t) e, on-ne (to t) p (d t) e)
 
@@ -37,6 +39,7 @@ module _ (n : ℕ) (to : ℕ → ℕ) where
       unfolding through
       counts-through w c eq p l = omega (arith, telescope w c eq p l n, level-end n to out free c p l)
 
+      -- so there is one solution at most
       pub counts-unique : (w c d : ℕ → ℕ) → Counts n to w c → Counts n to w d → (p : ℕ) → p < n → c p ≡ d p
       counts-unique w c d hc hd p l = counts-through w c hc p l ∙ sym (counts-through w d hd p l)
 
@@ -70,5 +73,6 @@ module _ (n : ℕ) (to : ℕ → ℕ) where
           let last : steps to k p < n = inside-one n to out (steps to k p) (omega arith) in
           omega (arith, rises k p last, eq p l, gives c p (steps to k p) last s)
 
+      -- so where each cell with an arrow has weight, a solution leaves no loop
       pub weighted-no-loop : ((p : ℕ) → p < n → to p < n → 0 < w p) → NoLoop n to
       weighted-no-loop pos p l d = omega (arith, loop-weight p (l, d), pos p l (down-inside n to out p p l d))

@@ -18,4 +18,5 @@ pub mod Alike
 pub mod Without
 pub mod Close
 pub mod Cut
+pub mod MendBound
 pub mod Lists

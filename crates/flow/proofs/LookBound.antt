@@ -1,7 +1,7 @@
 -- No count that the look-around method stores exceeds the sum of the weights, half-way too, and on a net with loops too: so a count fits where that sum fits.
 -- Assumes nothing.
 use mathlib.Core.Path.{_≡_, refl, sym, ap, _∙_}
-use mathlib.Core.Bool.{Bool, true, false, not, _&&_}
+use mathlib.Core.Bool.{Bool, not}
 use mathlib.Core.Logic.{inl, inr}
 use Prim.Native.Nat.{ℕ, _≤_, _<_}
 use native.Mathlib.Omega.{arith}
@@ -10,7 +10,7 @@ use borrow.Author.Tests.{eqb-true, eq-eqb, ne-eqb}
 use Rattle.flow.specs.Net.{on, sum, given, Counts, NoLoop}
 use Rattle.flow.proofs.Sum.{same, on-ne, sum-none, sum-mono}
 use Rattle.flow.proofs.Count.{weighted-no-loop}
-use Rattle.flow.proofs.Cut.{kept, incoming, kept-out, kept-one, given-cut}
+use Rattle.flow.proofs.Cut.{kept, incoming-none, kept-out, kept-one, given-cut}
 use Rattle.flow.proofs.Bound.{on-le, counts-bound}
 use Rattle.flow.proofs.LookStep.{Looked}
 use Rattle.flow.proofs.Scan.{EndsWeigh}
@@ -39,11 +39,6 @@ counted-le : (n : ℕ) (w c : ℕ → ℕ) → sum n (counted w c) ≤ sum n w
 unfolding counted
 counted-le n w c = sum-mono (λ q l. on-le (not (eqb (c q) 0)) (w q))
 
-and-off : (a b : Bool) (x : ℕ) → (a ≡ true → b ≡ true → ⊥) → on (a && b) x ≡ 0
-and-off true true x h = absurd (h refl refl)
-and-off true false x h = refl
-and-off false b x h = refl
-
 -- the counted cells with the arrows between them are a net without loops, and what is stored are its counts
 module _ (n : ℕ) (to w c : ℕ → ℕ) (out : (p : ℕ) → n ≤ p → n ≤ to p) (looked : Looked n to w c) where
   between : (q p : ℕ) → p < n → among n to c q ≡ p → (to q ≡ p) × (c p ≡ 0 → ⊥)
@@ -53,7 +48,7 @@ module _ (n : ℕ) (to w c : ℕ → ℕ) (out : (p : ℕ) → n ≤ p → n ≤
       (same-arrow, λ z. let cut : among n to c q ≡ n = rw (eq-eqb (c (to q)) 0 (ap c same-arrow ∙ z)) in omega arith)
 
   stored-counts : Counts n (among n to c) (counted w c) c
-  unfolding given incoming
+  unfolding given
   stored-counts p l = elim (same (c p) 0) [
     | inl z ↦ omega (
       arith,
@@ -65,8 +60,7 @@ module _ (n : ℕ) (to w c : ℕ → ℕ) (out : (p : ℕ) → n ≤ p → n ≤
       counted-is w c p h,
       looked .eq p l h,
       given-cut n to (onto-zero to c) c p l,
-      sum-none {n = n} {f = λ q. on (onto-zero to c q && eqb (to q) p) (c q)}
-          (λ q lq. and-off (onto-zero to c q) (eqb (to q) p) (c q) (λ a b. h (ap c (sym (eqb-true (to q) p b)) ∙ eqb-true (c (to q)) 0 a))),
+      incoming-none n to (onto-zero to c) c p (λ q lq a e. absurd (h (ap c (sym e) ∙ eqb-true (c (to q)) 0 a))),
     )
   ]
 

@@ -1,10 +1,10 @@
 -- A step of the look-around method. Assumes nothing.
-use mathlib.Core.Path.{_≡_, refl, sym, ap, _∙_}
-use mathlib.Core.Logic.{_⊎_, inl, inr}
-use Prim.Native.Nat.{ℕ, zero, suc, _+_, _≤_, _<_}
+use mathlib.Core.Path.{_≡_, sym, ap, _∙_}
+use mathlib.Core.Logic.{inl, inr}
+use Prim.Native.Nat.{ℕ, suc, _+_, _<_}
 use native.Mathlib.Omega.{arith}
 use lib.Dec.{eqb}
-use Rattle.flow.specs.Net.{on, sum, number, given}
+use Rattle.flow.specs.Net.{on, number, given}
 use Rattle.flow.proofs.Sum.{same, on-eq, on-ne, sum-change}
 use Rattle.flow.proofs.Count.{given-still}
 
@@ -23,6 +23,7 @@ module _ (n : ℕ) (to w c d : ℕ → ℕ) (t : ℕ) (lt : t < n) (zero-at : c 
   still : (p : ℕ) → (to t ≡ p → ⊥) → given n to d p ≡ given n to c p
   still = given-still n to c d t lt other
 
+  -- storing keeps what holds half-way
   pub look-step : Looked n to w c → Looked n to w d
   look-step s = record {
     eq = λ p l h. elim (same p t) [
@@ -35,6 +36,7 @@ module _ (n : ℕ) (to w c d : ℕ → ℕ) (t : ℕ) (lt : t < n) (zero-at : c 
         elim (same p t) [ inl e ↦ givers q lq (g ∙ e) cq | inr e ↦ s .before p q l lq (λ x. h (other p l e ∙ x)) g cq ];
   }
 
+  -- and one cell fewer holds 0: the measure of the method
   pub zeros-fall : (d t ≡ 0 → ⊥) → suc (zeros n d) ≡ zeros n c
   unfolding zeros
   zeros-fall h = omega (

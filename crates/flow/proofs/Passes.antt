@@ -1,6 +1,6 @@
 -- The count in words: the weight of the cells whose water passes. Assumes nothing.
 use mathlib.Core.Path.{_≡_, sym, ap, _∙_}
-use mathlib.Core.Bool.{true, false, _||_}
+use mathlib.Core.Bool.{false, _||_}
 use mathlib.Core.Logic.{inl, inr}
 use Prim.Native.Nat.{ℕ, zero, suc, _+_, _≤_, _<_}
 use native.Mathlib.Omega.{arith}
@@ -32,6 +32,7 @@ module _ (n : ℕ) (to : ℕ → ℕ) (out : (p : ℕ) → n ≤ p → n ≤ to 
         | inr t ↦ rw t (omega arith)
       ]
 
+  -- what comes to p in any number of steps is the weight of p and of the cells that p is downstream of
   pub through-passes : (w : ℕ → ℕ) (p : ℕ) → p < n → through n to w p ≡ sum n (λ q. on (eqb q p || downb n to q p) (w q))
   unfolding through level downb
   through-passes w p l =

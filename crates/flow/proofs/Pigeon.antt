@@ -50,6 +50,7 @@ move-inj n v x y dx dy m =
       | inr ex ↦ elim (same y n) [ inl ey ↦ absurd (dx (sym (move-off n v x ex) ∙ m ∙ move-at n v y ey)) | inr ey ↦ sym (move-off n v x ex) ∙ m ∙ move-off n v y ey ]
     ]
 
+-- of suc n numbers below n two are the same
 pub pigeon : (n : ℕ) (f : ℕ → ℕ) → ((i : ℕ) → i < suc n → f i < n) → Twice f (suc n)
 pigeon zero f h = absurd (let l = h 0 (omega arith) in omega arith)
 pigeon (suc n) f h = go (find f (f (suc n)) (suc n))

@@ -6,8 +6,8 @@ use Prim.Native.Nat.{ℕ, zero, suc, _+_, _≤_, _<_}
 use native.Mathlib.Omega.{arith}
 use native.Mathlib.Nat.{eq-or-lt-of-le, le-of-suc-le-suc}
 use lib.Dec.{eqb, ltb}
-use borrow.Author.Tests.{eqb-true, eq-eqb, lt-ltb, le-ltb, not-true, not-false}
-use Rattle.flow.specs.Net.{on, sum, steps, given, Counts, Down, OnLoop, NoLoop, downb}
+use borrow.Author.Tests.{eqb-true, eq-eqb, lt-ltb, le-ltb, not-true}
+use Rattle.flow.specs.Net.{on, sum, steps, given, Counts, OnLoop, NoLoop, downb}
 use Rattle.flow.proofs.Sum.{test, on-true, on-false, sum-first, sum-suc}
 use Rattle.flow.proofs.Walk.{downb-iff, leaves}
 use Rattle.flow.proofs.Through.{through}
@@ -34,6 +34,7 @@ countsb n to w c = allb n (λ p. eqb (c p) (w p + given n to c p))
 unfoldable pub toGo : ℕ → (ℕ → ℕ) → ℕ → ℕ
 toGo n to p = sum n (λ k. on (ltb (steps to k p) n) 1)
 
+-- where the test of all passes, each passes
 pub allb-says : (n : ℕ) (f : ℕ → Bool) → allb n f ≡ true → (p : ℕ) → p < n → f p ≡ true
 unfolding allb
 allb-says zero f h p l = absurd (omega arith)
@@ -43,6 +44,7 @@ allb-says (suc n) f h p l =
       | inr t ↦ absurd (true≢false (sym h ∙ rw t))
     ]
 
+-- and the other way round
 pub allb-of : (n : ℕ) (f : ℕ → Bool) → ((p : ℕ) → p < n → f p ≡ true) → allb n f ≡ true
 unfolding allb
 allb-of zero f h = refl
@@ -61,15 +63,18 @@ first-passing (suc n) f =
       | inr s ↦ inr (s .0, omega arith, s .2, s .3)
     ]
 
+-- the test of the count equation says what it should
 pub countsb-iff : (n : ℕ) (to w c : ℕ → ℕ) → (countsb n to w c ≡ true) ↔ Counts n to w c
 unfolding countsb
 countsb-iff n to w c = (λ h p l. eqb-true _ _ (allb-says n _ h p l), λ h. allb-of n _ (λ p l. eq-eqb _ _ (h p l)))
 
 module _ (n : ℕ) (to : ℕ → ℕ) (out : (p : ℕ) → n ≤ p → n ≤ to p) where
+  -- so does the test of one cell for a loop
   pub onLoopb-iff : (p : ℕ) → p < n → (onLoopb n to p ≡ true) ↔ OnLoop n to p
   unfolding onLoopb
   onLoopb-iff p l = (λ e. (l, downb-iff n to out p p l .0 e), λ o. downb-iff n to out p p l .1 (o .1))
 
+  -- and that of the net
   pub noLoopb-iff : (noLoopb n to ≡ true) ↔ NoLoop n to
   unfolding noLoopb
   noLoopb-iff = (

@@ -29,27 +29,33 @@ gather n f g c p far =
     ])
 
 module _ (n : ℕ) (to : ℕ → ℕ) where
+  -- in no step comes what is there
   pub level-zero : (c : ℕ → ℕ) (p : ℕ) → p < n → level n to 0 c p ≡ c p
   unfolding level steps
   level-zero c p l = sum-delta n p c l
 
+  -- what comes of two weights together
   pub level-add : (k : ℕ) (w v : ℕ → ℕ) (p : ℕ) → level n to k (λ q. w q + v q) p ≡ level n to k w p + level n to k v p
   unfolding level
   level-add k w v p = simp (on-add, sum-add)
 
+  -- and of equal weights
   pub level-ext : (k : ℕ) (w v : ℕ → ℕ) (p : ℕ) → ((q : ℕ) → q < n → w q ≡ v q) → level n to k w p ≡ level n to k v p
   unfolding level
   level-ext k w v p h = sum-ext (λ q l. rw (h q l))
 
+  -- the same in any number of steps
   pub through-add : (w v : ℕ → ℕ) (p : ℕ) → through n to (λ q. w q + v q) p ≡ through n to w p + through n to v p
   unfolding through
   through-add w v p = simp (level-add, sum-add)
 
+  -- what is given of a sum
   pub given-sum : (m : ℕ) (f : ℕ → ℕ → ℕ) (p : ℕ) → given n to (λ q. sum m (λ k. f k q)) p ≡ sum m (λ k. given n to (f k) p)
   unfolding given
   given-sum m f p = simp (← sum-on) (sum-swap _ _ _)
 
   module _ (out : (p : ℕ) → n ≤ p → n ≤ to p) where
+    -- in a net without loops nothing comes in n steps
     pub level-end : NoLoop n to → (c : ℕ → ℕ) (p : ℕ) → p < n → level n to n c p ≡ 0
     unfolding level
     level-end free c p l = sum-none (λ q lq. on-ne (steps to n q) p (c q) (λ e. omega (arith, leaves n to out free q)))
@@ -59,6 +65,7 @@ module _ (n : ℕ) (to : ℕ → ℕ) where
     unfolding level given steps
     level-given k c p l = gather n to (steps to k) c p (λ r h e. omega (arith, stay-out n to out k (to r) h))
 
+    -- one step more at the end
     pub given-level : (k : ℕ) (w : ℕ → ℕ) (p : ℕ) → p < n → given n to (level n to k w) p ≡ level n to (suc k) w p
     unfolding level given
     given-level k w p l = gather n (steps to k) to w p (λ r h e. omega (arith, out (steps to k r) h)) ∙ simp steps-suc

@@ -1,6 +1,6 @@
 -- Walks along the arrows: their parts, how a walk that stays inside comes to a loop, and the test for downstream. Assumes nothing.
 use mathlib.Core.Path.{_≡_, refl, sym, ap, _∙_}
-use mathlib.Core.Bool.{Bool, true, false, _||_, true≢false}
+use mathlib.Core.Bool.{true, true≢false}
 use mathlib.Core.Logic.{_⊎_, inl, inr, _↔_}
 use Prim.Native.Nat.{ℕ, zero, suc, _+_, _-_, _≤_, _<_}
 use native.Mathlib.Omega.{arith}
@@ -11,14 +11,17 @@ use Rattle.flow.specs.Net.{steps, Down, OnLoop, NoLoop, downIn, downb}
 use Rattle.flow.proofs.Sum.{test}
 use Rattle.flow.proofs.Pigeon.{pigeon}
 
+-- a number is below another or not
 pub below : (a b : ℕ) → (a < b) ⊎ (b ≤ a)
 below a b = elim (test (ltb a b)) [ inl e ↦ inl (ltb-true a b e) | inr e ↦ inr (ltb-false a b e) ]
 
+-- a walk after a walk
 pub steps-add : (to : ℕ → ℕ) (j k p : ℕ) → steps to (j + k) p ≡ steps to k (steps to j p)
 unfolding steps
 steps-add to zero k p = rw zero-add
 steps-add to (suc j) k p = rw suc-add (steps-add to j k (to p))
 
+-- the last arrow of a walk
 pub steps-suc : (to : ℕ → ℕ) (k p : ℕ) → steps to (suc k) p ≡ to (steps to k p)
 unfolding steps
 steps-suc to zero p = refl
@@ -32,6 +35,7 @@ steps-cut to {i} {j} p l = let e : j ≡ i + (j - i) = omega arith in ap (λ (m 
 pub loop-on : (to : ℕ → ℕ) (p k i : ℕ) → steps to k p ≡ p → steps to k (steps to i p) ≡ steps to i p
 loop-on to p k i e = sym (steps-add to i k p) ∙ ap (λ (m : ℕ). steps to m p) (add-comm i k) ∙ steps-add to k i p ∙ ap (steps to i) e
 
+-- a walk of one step or more leads downstream
 pub down-of : (to : ℕ → ℕ) {k : ℕ} (p q : ℕ) → 0 < k → steps to k p ≡ q → Down to p q
 down-of to {k} p q l e = let s : suc (k - 1) ≡ k = omega arith in (k - 1, ap (λ (m : ℕ). steps to m p) s ∙ e)
 
@@ -49,6 +53,7 @@ downIn-says to (suc k) p q e =
       | inr t ↦ let (i, l, s) = downIn-says to k (to p) q (sym (rw t) ∙ e) in (suc i, omega arith, s)
     ]
 
+-- and passes where it should
 pub downIn-of : (to : ℕ → ℕ) (k i p q : ℕ) → i < k → steps to (suc i) p ≡ q → downIn to k p q ≡ true
 unfolding steps downIn
 downIn-of to zero i p q l e = absurd (omega arith)
@@ -56,6 +61,7 @@ downIn-of to (suc k) zero p q l e = rw (eq-eqb (to p) q e)
 downIn-of to (suc k) (suc i) p q l e = elim (test (eqb (to p) q)) [ inl t ↦ rw t | inr t ↦ rw t (downIn-of to k i (to p) q (omega arith) e) ]
 
 module _ (n : ℕ) (to : ℕ → ℕ) (out : (p : ℕ) → n ≤ p → n ≤ to p) where
+  -- a walk that is outside stays outside
   pub stay-out : (k p : ℕ) → n ≤ p → n ≤ steps to k p
   unfolding steps
   stay-out zero p h = h
@@ -65,13 +71,16 @@ module _ (n : ℕ) (to : ℕ → ℕ) (out : (p : ℕ) → n ≤ p → n ≤ to 
   pub inside : (k p : ℕ) → steps to k p < n → p < n
   inside k p h = elim (below p n) [ inl l ↦ l | inr l ↦ omega (arith, stay-out k p l) ]
 
+  -- the same of one arrow
   pub inside-one : (p : ℕ) → to p < n → p < n
   inside-one p h = elim (below p n) [ inl l ↦ l | inr l ↦ omega (arith, out p l) ]
 
+  -- and of the first arrow on a way to a cell
   pub down-inside : (p q : ℕ) → q < n → Down to p q → to p < n
   unfolding steps
   down-inside p q l d = inside (d .0) (to p) (omega (arith, d .1))
 
+  -- and of each cell on the way
   pub inside-at : {i j : ℕ} (p : ℕ) → i ≤ j → steps to j p < n → steps to i p < n
   inside-at {i} {j} p l h = inside (j - i) (steps to i p) (rw (steps-cut to p l) at h)
 
@@ -81,6 +90,7 @@ module _ (n : ℕ) (to : ℕ → ℕ) (out : (p : ℕ) → n ≤ p → n ≤ to 
       let (i, j, l, lj, e) = pigeon n (λ i. steps to i p) (λ i l. inside-at p (omega arith) h) in
       (i, omega arith, (inside-at p (omega arith) h, loop-of to p l e))
 
+  -- so where there is no loop, a walk of n steps has left the net
   pub leaves : NoLoop n to → (p : ℕ) → n ≤ steps to n p
   leaves free p = elim (below (steps to n p) n) [ inl l ↦ (let (i, li, o) = reaches-loop p l in absurd (free (steps to i p) (o .0) (o .1))) | inr l ↦ l ]
 
@@ -98,9 +108,11 @@ module _ (n : ℕ) (to : ℕ → ℕ) (out : (p : ℕ) → n ≤ p → n ≤ to 
             ∙ steps-add to i (suc k - j) p ∙ ap (steps to (suc k - j)) t ∙ sym (steps-cut to p (omega arith)) ∙ e) lq
       ]
 
+  -- what is downstream is met within n steps
   pub down-short : (p q : ℕ) → q < n → Down to p q → (i : ℕ) × (i < n) × (steps to (suc i) p ≡ q)
   down-short p q l d = shorten (suc (d .0)) (d .0) p q (omega arith) (d .1) l
 
+  -- so the test for downstream says what it should
   pub downb-iff : (p q : ℕ) → q < n → (downb n to p q ≡ true) ↔ Down to p q
   unfolding downb
   downb-iff p q l = (

@@ -1,12 +1,12 @@
 -- A cell taken out of a net and put into it: the count equation is then off at one cell, the one that its arrow ends at, by its count.
 -- So a change at one cell is two moves, each followed by mending down one way. Assumes nothing.
-use mathlib.Core.Path.{_≡_, refl, sym, ap, _∙_}
+use mathlib.Core.Path.{_≡_, refl, sym}
 use mathlib.Core.Logic.{inl, inr}
 use Prim.Native.Nat.{ℕ, _+_, _≤_, _<_}
 use native.Mathlib.Omega.{arith}
 use lib.Dec.{eqb}
 use borrow.Author.Tests.{eqb-true, eq-eqb}
-use Rattle.flow.specs.Net.{on, sum, given, Counts}
+use Rattle.flow.specs.Net.{on, given, Counts}
 use Rattle.flow.proofs.Sum.{test-iff, same, on-eq, on-ne, sum-none, sum-change}
 use Rattle.flow.proofs.Count.{given-still}
 use Rattle.flow.proofs.Mend.{Off}
