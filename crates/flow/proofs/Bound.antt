@@ -12,7 +12,7 @@ use Rattle.flow.proofs.Walk.{below}
 use Rattle.flow.proofs.Through.{through, through-add}
 use Rattle.flow.proofs.Passes.{through-passes, counts-passes}
 
--- a test takes away at most
+-- a test takes away and adds nothing
 pub on-le : (b : Bool) (x : ℕ) → on b x ≤ x
 on-le true x = omega arith
 on-le false x = omega arith

@@ -16,7 +16,7 @@ module _ (n : ℕ) (to : ℕ → ℕ) where
 
   -- d is c with another value at t: what is given differs only at the cell that t's arrow ends at
   module _ (c d : ℕ → ℕ) (t : ℕ) (lt : t < n) (other : (q : ℕ) → q < n → (q ≡ t → ⊥) → d q ≡ c q) where
-    -- what t held and what it holds now stand for the difference
+    -- there by what t held and what it holds now
     pub given-change : (p : ℕ) → given n to d p + on (eqb (to t) p) (c t) ≡ given n to c p + on (eqb (to t) p) (d t)
     unfolding given
     given-change p = sum-change lt (λ q l h. rw (other q l h))

@@ -6,6 +6,7 @@ pub mod Count
 pub mod Passes
 pub mod Test
 pub mod Loop
+pub mod Round
 pub mod LoopLength
 pub mod Bound
 pub mod Look
