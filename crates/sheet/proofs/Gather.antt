@@ -1,0 +1,48 @@
+-- What a loop over the places gathers: one place more.
+-- Assumes nothing.
+use mathlib.Core.Path.{_≡_, refl, sym, ap, _∙_}
+use mathlib.Core.Bool.{Bool, true, false, not, _&&_}
+use mathlib.Core.List.{List}
+use mathlib.Core.Logic.{inl, inr}
+use Prim.Native.Nat.{ℕ, zero, suc, _+_, _*_, _<_, _≤_, max}
+use native.Mathlib.Omega.{arith}
+use native.Mathlib.Numerals.{add-one}
+use lib.Dec.{leb, ltb}
+use borrow.Author.Tests.{lt-ltb, le-ltb, lt-leb, le-leb}
+use Rattle.flow.specs.Net.{on, sum, number}
+use Rattle.flow.proofs.Sum.{sum-next, on-true, on-false, sum-ones, sum-mono}
+use Rattle.flow.proofs.Bound.{on-le}
+use Rattle.flow.proofs.Walk.{below}
+use Rattle.sheet.specs.Sheet.{landAt, destOf, outletAt}
+use Rattle.sheet.specs.Totals.{greatestBelow}
+
+-- a place that passes the test, and one that does not
+module _ (passes : ℕ → Bool) (i : ℕ) {n : ℕ} (so-far : n ≡ number i passes) where
+  pub one-more : passes i ≡ true → n + 1 ≡ number (i + 1) passes
+  one-more e = omega (arith, sum-next i (λ q. on (passes q) 1), on-true 1 e)
+
+  pub none-more : passes i ≡ false → n ≡ number (i + 1) passes
+  none-more e = omega (arith, sum-next i (λ q. on (passes q) 1), on-false 1 e)
+
+-- no more places pass than there are
+pub number-le : (n : ℕ) (passes : ℕ → Bool) → number n passes ≤ n
+number-le n passes =
+    let m : number n passes ≤ sum n (λ q. 1) = sum-mono (λ q l. on-le (passes q) 1) in
+    omega (arith, sum-ones n)
+
+pub greatest-next : (n : ℕ) (f : ℕ → ℕ) → greatestBelow (n + 1) f ≡ max (greatestBelow n f) (f n)
+unfolding greatestBelow
+greatest-next n f = rw add-one
+
+-- an outlet, for each way through the code that tells it
+module _ (rows cols : ℕ) (g : List ℕ) (p : ℕ) where
+  pub outlet-absent : landAt g p ≡ false → false ≡ outletAt rows cols g p
+  unfolding outletAt
+  outlet-absent e = rw e
+
+  pub outlet-land : {q : ℕ} → landAt g p ≡ true → q ≡ destOf rows cols g p → leb (rows * cols) q ≡ outletAt rows cols g p
+  unfolding outletAt
+  outlet-land {q} e d = rw (e, ← d) (elim (below q (rows * cols)) [
+    | inl l ↦ rw (lt-ltb q (rows * cols) l, lt-leb (rows * cols) q l)
+    | inr l ↦ rw (le-ltb q (rows * cols) l, le-leb (rows * cols) q l)
+  ])

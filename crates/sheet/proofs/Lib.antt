@@ -1,0 +1,9 @@
+pub mod Table
+pub mod Way
+pub mod Places
+pub mod Signed
+pub mod Dest
+pub mod Bridge
+pub mod Inner
+pub mod Weigh
+pub mod Gather

@@ -1,0 +1,73 @@
+-- Rows, columns and places: what is not linear.
+-- Assumes nothing.
+use mathlib.Core.Path.{_≡_, refl, sym, ap, _∙_}
+use Prim.Native.Nat.{ℕ, zero, suc, _+_, _-_, _*_, _/_, _%_, _<_, _≤_}
+use native.Mathlib.Omega.{arith}
+use native.Mathlib.Nat.{mul-zero, mod-lt, div-lt-iff-lt-mul, mul-le-mul, mul-le-mul-right, suc-mul, div-add-mod', mul-add-div-right, mul-add-mod-self-right, div-eq-of-lt, mod-eq-of-lt}
+use mathlib.Core.Bool.{Bool, true, false, false≢true}
+use borrow.Author.Tests.{leb-true, le-leb}
+use Rattle.sheet.specs.Shape.{Within}
+use Rattle.sheet.specs.Leaves.{Place, Cell, within}
+
+pub cols-pos : (rows cols p : ℕ) → p < rows * cols → 0 < cols
+cols-pos rows zero p h = let h′ = rw (mul-zero rows) at h in absurd (omega arith)
+cols-pos rows (suc c) p h = omega arith
+
+module _ {rows cols p : ℕ} (at : Place rows cols p) where
+  pub some-cols : 0 < cols
+  some-cols = cols-pos rows cols p (at .below)
+
+  pub row-lt : p / cols < rows
+  row-lt = div-lt-iff-lt-mul some-cols .1 (at .below)
+
+  pub col-lt : p % cols < cols
+  col-lt = mod-lt p some-cols
+
+  pub area : rows * cols ≤ 16777216
+  area = mul-le-mul (at .rows-fit) (at .cols-fit)
+
+-- a row and a column below the sides are a place
+pub place-lt : (rows cols r c : ℕ) → r < rows → c < cols → r * cols + c < rows * cols
+place-lt rows cols r c h l = omega (arith, mul-le-mul-right cols h, suc-mul r cols)
+
+pub within-true : (n most : ℕ) → within n most ≡ true → (1 ≤ n) × (n ≤ most)
+unfolding within
+within-true zero most e = absurd (let z : _≡_ {A = Bool} false true = e in false≢true z)
+within-true (suc n) most e = (omega arith, leb-true (suc n) most (rw (le-leb 1 (suc n) (omega arith)) at e))
+
+pub true-within : (n most : ℕ) → 1 ≤ n → n ≤ most → within n most ≡ true
+unfolding within
+true-within n most h l = simp (le-leb 1 n h) (le-leb n most l)
+
+-- sides within the bounds, and what they come to
+pub made : (most rows cols : ℕ) → within rows most ≡ true → within cols most ≡ true → Within most rows cols × (rows * cols ≤ most * most)
+made most rows cols a b =
+    let r = within-true rows most a in
+    let c = within-true cols most b in
+    (record { some-row = r .0; rows-most = r .1; some-col = c .0; cols-most = c .1 }, mul-le-mul (r .1) (c .1))
+
+-- a number within the bounds is not outside them
+pub outside : (n most : ℕ) → 1 ≤ n → n ≤ most → within n most ≡ false → ⊥
+outside n most h l e = false≢true (sym e ∙ true-within n most h l)
+
+pub cell-place : {rows cols r c : ℕ} → Cell rows cols r c → Place rows cols (r * cols + c)
+cell-place {rows} {cols} {r} {c} s =
+    record { rows-fit = s .rows-fit; cols-fit = s .cols-fit; below = place-lt rows cols r c (s .row-in) (s .col-in) }
+
+pub place-cell : {rows cols p : ℕ} → Place rows cols p → Cell rows cols (p / cols) (p % cols)
+place-cell s = record { rows-fit = s .rows-fit; cols-fit = s .cols-fit; row-in = row-lt s; col-in = col-lt s }
+
+-- a place taken apart
+pub row-of : (cols r c : ℕ) → c < cols → (r * cols + c) / cols ≡ r
+row-of cols r c h = mul-add-div-right {m = cols} (omega arith) r c ∙ (let z = div-eq-of-lt {n = c} {m = cols} h in omega arith)
+
+pub col-of : (cols r c : ℕ) → c < cols → (r * cols + c) % cols ≡ c
+col-of cols r c h = mul-add-mod-self-right r cols c ∙ mod-eq-of-lt h
+
+-- a row and a column, each with one added, within the sheet: the number of their place, and that it is small
+pub within-place : (rows cols D R : ℕ) → rows ≤ 4096 → cols ≤ 4096 → within D rows ≡ true → within R cols ≡ true
+    → (1 ≤ D) × ((1 ≤ R) × ((D - 1) * cols + (R - 1) < 16777216))
+within-place rows cols D R h l a b =
+    let d = within-true D rows a in
+    let r = within-true R cols b in
+    (d .0, (r .0, omega (arith, mul-le-mul h l, place-lt rows cols (D - 1) (R - 1) (omega arith) (omega arith))))

@@ -1,0 +1,5 @@
+pub mod Shape
+pub mod Compass
+pub mod Sheet
+pub mod Totals
+pub mod Leaves

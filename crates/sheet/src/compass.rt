@@ -1,0 +1,66 @@
+// The compass table, and what a code means.
+ghost use mathlib.Core.Path.{_≡_};
+ghost use Rattle.sheet.specs.Compass.{wayOf, isArrow, isCode};
+
+// A code, and its step in rows and columns.
+pub struct Step(pub u8, pub i32, pub i32);
+
+// What a code means.
+pub enum Way {
+    Arrow(Step),
+    Absent,
+    Bad,
+}
+
+// East first, clockwise.
+const STEPS: [Step; 8] = [
+    Step(1, 0, 1), // east
+    Step(2, 1, 1), // south-east
+    Step(4, 1, 0), // south
+    Step(8, 1, -1), // south-west
+    Step(16, 0, -1), // west
+    Step(32, -1, -1), // north-west
+    Step(64, -1, 0), // north
+    Step(128, -1, 1), // north-east
+];
+
+// What a code means, with its step where it is an arrow. The match comes first so that each use of the table has a number written out.
+pub fn way_of(code: u8) -> Way
+    ensures { λ r. ⌜ r ≡ wayOf code ⌝ }
+{
+    match code {
+        1 => Way::Arrow(STEPS[0]),
+        2 => Way::Arrow(STEPS[1]),
+        4 => Way::Arrow(STEPS[2]),
+        8 => Way::Arrow(STEPS[3]),
+        16 => Way::Arrow(STEPS[4]),
+        32 => Way::Arrow(STEPS[5]),
+        64 => Way::Arrow(STEPS[6]),
+        128 => Way::Arrow(STEPS[7]),
+        0 => Way::Absent,
+        255 => Way::Absent,
+        _ => Way::Bad,
+    }
+}
+
+// Whether a code is an arrow, so that its cell is land.
+pub fn is_arrow(code: u8) -> bool
+    ensures { λ r. ⌜ r ≡ isArrow code ⌝ }
+{
+    match way_of(code) {
+        Way::Arrow(_) => true,
+        Way::Absent => false,
+        Way::Bad => false,
+    }
+}
+
+// Whether a code is an arrow or marks an absent cell.
+pub fn is_code(code: u8) -> bool
+    ensures { λ r. ⌜ r ≡ isCode code ⌝ }
+{
+    match way_of(code) {
+        Way::Arrow(_) => true,
+        Way::Absent => true,
+        Way::Bad => false,
+    }
+}

@@ -1,0 +1,103 @@
+// Where water goes: one step on from a cell, and the land cell that its arrow steps onto.
+ghost use mathlib.Core.Bool.{true};
+ghost use mathlib.Core.Path.{_≡_};
+ghost use Prim.Native.Nat.{_+_, _*_, _<_};
+ghost use lib.Dec.{T};
+ghost use lib.ListN.{length};
+ghost use Rattle.sheet.specs.Compass.{isArrow, stepOf};
+ghost use Rattle.sheet.specs.Leaves.{Place, Cell, small, lift};
+ghost use Rattle.sheet.specs.Sheet.{stepFrom, destOf};
+use crate::compass::Way;
+use crate::compass::is_arrow;
+use crate::compass::way_of;
+use crate::shape::is_within;
+
+// One more than x moved by d: the one sum of signed numbers.
+fn moved(x: usize, d: i32) -> usize
+    requires { ⌜ (x < 4096) × T (small d) ⌝ }
+    ensures { λ r. ⌜ r ≡ x + lift d ⌝ }
+{
+    (x as i32 + 1 + d) as usize
+}
+
+// One more than the row that is one step of an arrow from row x.
+fn row_after(x: usize, code: u8) -> usize
+    requires { ⌜ (x < 4096) × (isArrow code ≡ true) ⌝ }
+    ensures { λ r. ⌜ r ≡ x + lift (stepOf code .1) ⌝ }
+{
+    match way_of(code) {
+        Way::Arrow(s) => moved(x, s.1),
+        Way::Absent => 0,
+        Way::Bad => 0,
+    }
+}
+
+// One more than the column that is one step of an arrow from column x.
+fn col_after(x: usize, code: u8) -> usize
+    requires { ⌜ (x < 4096) × (isArrow code ≡ true) ⌝ }
+    ensures { λ r. ⌜ r ≡ x + lift (stepOf code .2) ⌝ }
+{
+    match way_of(code) {
+        Way::Arrow(s) => moved(x, s.2),
+        Way::Absent => 0,
+        Way::Bad => 0,
+    }
+}
+
+// The place one step of an arrow from row r and column c, or rows * cols.
+pub fn beside(rows: usize, cols: usize, r: usize, c: usize, code: u8) -> usize
+    requires { ⌜ Cell rows cols r c ⌝ }
+    requires { ⌜ isArrow code ≡ true ⌝ }
+    ensures { λ x. ⌜ x ≡ stepFrom rows cols (stepOf code) (r * cols + c) ⌝ }
+{
+    let none = rows * cols;
+    let down = row_after(r, code);
+    if is_within(down, rows) {
+        let right = col_after(c, code);
+        if is_within(right, cols) {
+            return (down - 1) * cols + (right - 1);
+        }
+    }
+    none
+}
+
+// The place one step of a code from p, or rows * cols. Each arm has its code written out, so that no table is looked into as it runs.
+fn stepped(rows: usize, cols: usize, p: usize, code: u8) -> usize
+    requires { ⌜ Place rows cols p ⌝ }
+    requires { ⌜ isArrow code ≡ true ⌝ }
+    ensures { λ r. ⌜ r ≡ stepFrom rows cols (stepOf code) p ⌝ }
+{
+    let none = rows * cols;
+    let r = p / cols;
+    let c = p % cols;
+    match code {
+        1 => beside(rows, cols, r, c, 1),
+        2 => beside(rows, cols, r, c, 2),
+        4 => beside(rows, cols, r, c, 4),
+        8 => beside(rows, cols, r, c, 8),
+        16 => beside(rows, cols, r, c, 16),
+        32 => beside(rows, cols, r, c, 32),
+        64 => beside(rows, cols, r, c, 64),
+        128 => beside(rows, cols, r, c, 128),
+        _ => none,
+    }
+}
+
+// The land cell that the arrow of p steps onto, or rows * cols.
+pub fn dest(rows: usize, cols: usize, grid: &[u8], p: usize) -> usize
+    requires { ⌜ Place rows cols p ⌝ }
+    requires { ⌜ length (now grid) ≡ rows * cols ⌝ }
+    ensures { λ r. ⌜ r ≡ destOf rows cols (now (grid .entry)) p ⌝ }
+{
+    let none = rows * cols;
+    let code = grid[p];
+    if is_arrow(code) {
+        let q = stepped(rows, cols, p, code);
+        if q < none {
+            if is_arrow(grid[q]) {
+                return q;
+            }
+        }
+    }
+    none
+}

@@ -1,0 +1,100 @@
+// What is gathered over a whole sheet: the first bad code, the number of land cells and of outlets, the greatest count; and a buffer cleared.
+ghost use mathlib.Core.Path.{_≡_};
+ghost use Prim.Native.Nat.{_*_};
+ghost use lib.ListN.{length, replicate};
+ghost use Rattle.flow.specs.Net.{number};
+ghost use Rattle.promise.specs.First.{Finds};
+ghost use Rattle.sheet.specs.Leaves.{Place};
+ghost use Rattle.sheet.specs.Shape.{SheetShape};
+ghost use Rattle.sheet.specs.Sheet.{CodeOk, landAt, countAt, outletAt};
+ghost use Rattle.sheet.specs.Totals.{outlets, greatestBelow};
+use crate::compass::is_arrow;
+use crate::compass::is_code;
+use crate::step::dest;
+use promise::Found;
+
+// The first place with a bad code.
+pub fn first_bad_code(grid: &[u8]) -> Found
+    ensures { λ r. ⌜ Finds (length (now (grid .entry))) (CodeOk (now (grid .entry))) r ⌝ }
+{
+    let mut i = 0;
+    while i < grid.len() {
+        if !is_code(grid[i]) {
+            return Found::At(i);
+        }
+        i += 1;
+    }
+    Found::Nothing
+}
+
+// Clears a buffer.
+pub fn clear(buffer: &mut [u32])
+    ensures { λ _. ⌜ now (buffer .exit) ≡ replicate (length (now (buffer .entry))) 0 ⌝ }
+{
+    let mut i = 0;
+    while i < buffer.len() {
+        buffer[i] = 0;
+        i += 1;
+    }
+}
+
+// The number of land cells.
+pub fn land_number(grid: &[u8]) -> usize
+    ensures { λ r. ⌜ r ≡ number (length (now (grid .entry))) (landAt (now (grid .entry))) ⌝ }
+{
+    let mut n: usize = 0;
+    let mut i = 0;
+    while i < grid.len() {
+        if is_arrow(grid[i]) {
+            n += 1;
+        }
+        i += 1;
+    }
+    n
+}
+
+// Whether p is an outlet.
+pub fn is_outlet(rows: usize, cols: usize, grid: &[u8], p: usize) -> bool
+    requires { ⌜ Place rows cols p ⌝ }
+    requires { ⌜ length (now grid) ≡ rows * cols ⌝ }
+    ensures { λ r. ⌜ r ≡ outletAt rows cols (now (grid .entry)) p ⌝ }
+{
+    let none = rows * cols;
+    if !is_arrow(grid[p]) {
+        return false;
+    }
+    none <= dest(rows, cols, grid, p)
+}
+
+// The number of outlets.
+pub fn outlet_number(rows: usize, cols: usize, grid: &[u8]) -> usize
+    requires { ⌜ SheetShape rows cols ⌝ }
+    requires { ⌜ length (now grid) ≡ rows * cols ⌝ }
+    ensures { λ r. ⌜ r ≡ outlets rows cols (now (grid .entry)) ⌝ }
+{
+    let mut n: usize = 0;
+    let mut i = 0;
+    while i < grid.len() {
+        if is_outlet(rows, cols, grid, i) {
+            n += 1;
+        }
+        i += 1;
+    }
+    n
+}
+
+// The greatest count, and 0 where there is none.
+pub fn greatest(counts: &[u32]) -> u32
+    ensures { λ r. ⌜ r ≡ greatestBelow (length (now (counts .entry))) (countAt (now (counts .entry))) ⌝ }
+{
+    let mut most: u32 = 0;
+    let mut i = 0;
+    while i < counts.len() {
+        let x = counts[i];
+        if most < x {
+            most = x;
+        }
+        i += 1;
+    }
+    most
+}
