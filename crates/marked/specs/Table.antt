@@ -1,0 +1,95 @@
+-- The sheets of paper 01, "Sheets small enough to work by hand", that are marked with a star: A to K. Each row of the table has a sheet and
+-- what the paper says of it; `Says` is what that means.
+-- Assumes nothing.
+use mathlib.Core.List.{List, [], _∷_}
+use mathlib.Core.Path.{_≡_}
+use Prim.Native.Nat.{ℕ, _*_, _<_}
+use lib.ListN.{length, set}
+use Rattle.promise.specs.Links.{FirstNot}
+use Rattle.sheet.specs.Shape.{SheetShape}
+use Rattle.sheet.specs.Sheet.{CodeOk, SheetCounts, SheetNoLoop, SheetLoop}
+use Rattle.sheet.specs.Totals.{landCells, outlets, greatestCount}
+
+-- what the paper says of a sheet
+pub data Answer : Type 0 where
+  -- done: the counts by place; how many land cells and outlets there are, and the greatest count
+  counted : List ℕ → (land outlets greatest : ℕ) → Answer
+  -- refused with 4: the smallest place on any loop, and that loop's length
+  loop : (place len : ℕ) → Answer
+  -- refused with 3 at a place, though there is a loop, of this smallest place and this length
+  code-though-loop : (place loop-place len : ℕ) → Answer
+
+pub record Row : Type 0 where
+  pub rows : ℕ
+  pub cols : ℕ
+  pub grid : List ℕ
+  pub answer : Answer
+
+-- a line of the table
+abbrev sheet : ℕ → ℕ → List ℕ → Answer → Row
+sheet rows cols grid answer = record { rows = rows; cols = cols; grid = grid; answer = answer }
+
+-- case H, the program's grid
+abbrev pub H : List ℕ
+H =
+    2 ∷ 4 ∷ 8 ∷
+    1 ∷ 4 ∷ 16 ∷
+    128 ∷ 4 ∷ 32 ∷ []
+
+-- the grid with another code at a place
+abbrev pub changed : List ℕ → ℕ → ℕ → List ℕ
+changed grid place code = set grid place code
+
+abbrev pub table : List Row
+table =
+    sheet 1 1 (1 ∷ []) (counted (1 ∷ []) 1 1 1) ∷  -- A
+    sheet 1 1 (255 ∷ []) (counted (0 ∷ []) 0 0 0) ∷  -- B
+    sheet 1 3 (1 ∷ 1 ∷ 1 ∷ []) (counted (1 ∷ 2 ∷ 3 ∷ []) 3 1 3) ∷  -- C
+    sheet 1 3 (1 ∷ 255 ∷ 16 ∷ []) (counted (1 ∷ 0 ∷ 1 ∷ []) 2 2 1) ∷  -- D
+    sheet 1 2 (1 ∷ 16 ∷ []) (loop 0 2) ∷  -- E
+    sheet 1 4 (1 ∷ 1 ∷ 1 ∷ 16 ∷ []) (loop 2 2) ∷  -- F
+    sheet 1 3 (1 ∷ 16 ∷ 3 ∷ []) (code-though-loop 2 0 2) ∷  -- G
+    sheet 3 3 H (counted (1 ∷ 1 ∷ 1 ∷ 1 ∷ 8 ∷ 1 ∷ 1 ∷ 9 ∷ 1 ∷ []) 9 1 9) ∷  -- H
+    sheet 3 3 (changed H 0 1) (counted (1 ∷ 2 ∷ 1 ∷ 1 ∷ 8 ∷ 1 ∷ 1 ∷ 9 ∷ 1 ∷ []) 9 1 9) ∷  -- I
+    sheet 3 3 (changed H 4 64) (loop 1 2) ∷  -- J
+    sheet 3 3 (changed H 4 255) (counted (1 ∷ 1 ∷ 1 ∷ 1 ∷ 0 ∷ 1 ∷ 1 ∷ 1 ∷ 1 ∷ []) 8 8 1) ∷  -- K
+    []
+
+-- ---- what a row means
+
+-- each place holds an arrow or the mark of an absent cell
+abbrev pub CodesOk : Row → Type 0
+CodesOk r = (p : ℕ) → p < r .rows * r .cols → CodeOk (r .grid) p
+
+pub record Counted (r : Row) (counts : List ℕ) (land out greatest : ℕ) : Type 0 where
+  pub codes : CodesOk r
+  pub no-loop : SheetNoLoop (r .rows) (r .cols) (r .grid)
+  pub long : length counts ≡ r .rows * r .cols
+  pub equation : SheetCounts (r .rows) (r .cols) (r .grid) counts
+  pub land-is : landCells (r .rows) (r .cols) (r .grid) ≡ land
+  pub outlets-are : outlets (r .rows) (r .cols) (r .grid) ≡ out
+  pub greatest-is : greatestCount (r .rows) (r .cols) counts ≡ greatest
+
+pub record Loops (r : Row) (place len : ℕ) : Type 0 where
+  pub codes : CodesOk r
+  pub first : SheetLoop (r .rows) (r .cols) (r .grid) place len
+
+pub record BadThoughLoop (r : Row) (place loop-place len : ℕ) : Type 0 where
+  pub bad : FirstNot (r .rows * r .cols) (CodeOk (r .grid)) place
+  pub first : SheetLoop (r .rows) (r .cols) (r .grid) loop-place len
+
+abbrev pub Answers : Row → Answer → Type 0
+Answers r (counted counts land out greatest) = Counted r counts land out greatest
+Answers r (loop place len) = Loops r place len
+Answers r (code-though-loop place loop-place len) = BadThoughLoop r place loop-place len
+
+-- a row's sheet has an allowed shape and as many codes as cells, and what is said of it is so
+pub record Says (r : Row) : Type 0 where
+  pub shape : SheetShape (r .rows) (r .cols)
+  pub codes-long : length (r .grid) ≡ r .rows * r .cols
+  pub answers : Answers r (r .answer)
+
+-- each row of a list says what is so
+pub data All : List Row → Type 0 where
+  none : All []
+  and : {r : Row} {rs : List Row} → Says r → All rs → All (r ∷ rs)
