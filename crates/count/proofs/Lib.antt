@@ -1,0 +1,4 @@
+pub mod Step
+pub mod Scan
+pub mod Left
+pub mod Answers

@@ -1,0 +1,102 @@
+-- The scan over a sheet: how it starts, what each place does to what is known, and what is known when it is over.
+-- Assumes nothing.
+use mathlib.Core.Bool.{true, false, true≢false}
+use mathlib.Core.List.{List}
+use mathlib.Core.Logic.{_⊎_, inl, inr, _↔_}
+use mathlib.Core.Path.{_≡_, refl, sym, ap, _∙_}
+use Prim.Native.Nat.{ℕ, _+_, _*_, _<_, _≤_}
+use native.Mathlib.Omega.{arith}
+use lib.Dec.{eqb}
+use lib.ListN.{length, getD, replicate, length-replicate, getD-replicate}
+use borrow.Author.Tests.{eqb-true}
+use Rattle.flow.specs.Net.{on, sum, given, loopLength, OnLoop, NoLoop, FirstLoop, Counts}
+use Rattle.flow.proofs.Scan.{Ahead, looked-start, scan-start, scan-take, scan-next, scan-end, scanned, scanned-counts, scanned-free, scanned-first}
+use Rattle.flow.proofs.Sum.{test, on-true, on-false}
+use Rattle.flow.proofs.Wait.{Waits, waits-past}
+use Rattle.sheet.specs.Leaves.{LooksAround}
+use Rattle.sheet.specs.Sheet.{landAt, destOf, unit, countAt, SheetCounts, SheetNoLoop, SheetLoop, SheetOnLoop}
+use Rattle.sheet.specs.declared.around.Around.the-variants.{Waiting, Ready}
+use Rattle.sheet.proofs.Dest.{dest-beyond, gives-unit}
+use Rattle.sheet.proofs.Weigh.{sum-some}
+use Rattle.count.specs.Method.{Laid, Counting, Moved, Scanned, ToCount}
+
+module _ (rows cols : ℕ) (g : List ℕ) where
+  -- ---- the start
+
+  pub scan-begins : {c : List ℕ} → c ≡ replicate (rows * cols) 0 → Counting rows cols g c 0
+  scan-begins {c} e =
+      let zeros : (p : ℕ) → p < rows * cols → countAt c p ≡ 0 = λ p l. ap (λ (x : List ℕ). countAt x p) e ∙ getD-replicate (rows * cols) p 0 0 l in
+      record {
+        long = ap length e ∙ length-replicate (rows * cols) 0;
+        right = looked-start (rows * cols) (destOf rows cols g) (unit g) (countAt c) zeros;
+        scanned = scan-start (rows * cols) (destOf rows cols g) (unit g) (countAt c) zeros;
+      }
+
+  -- ---- one place
+
+  module _ (c : List ℕ) (k : ℕ) (s : Counting rows cols g c k) where
+    passed : (0 < unit g k → countAt c k ≡ 0 → (q : ℕ) × (q < rows * cols) × (destOf rows cols g q ≡ k)) → Counting rows cols g c (k + 1)
+    passed has = record { long = s .long; right = s .right; scanned = scan-next (rows * cols) (destOf rows cols g) (unit g) (countAt c) k has (s .scanned) }
+
+    -- a cell that has its count, an absent cell, and a cell that has a giver are passed over
+    pub pass-counted : (countAt c k ≡ 0 → ⊥) → Counting rows cols g c (k + 1)
+    pass-counted h = passed (λ v z. absurd (h z))
+
+    pub pass-absent : landAt g k ≡ false → Counting rows cols g c (k + 1)
+    pass-absent e = passed (λ v z. absurd (let u : unit g k ≡ 0 = on-false 1 e in omega arith))
+
+    pub pass-waiting : LooksAround rows cols g c k Waiting → Counting rows cols g c (k + 1)
+    pass-waiting w = passed (λ v z. (w .0, w .1, w .2))
+
+    pub pass-given : {t : ℕ} → LooksAround rows cols g c k (Ready t) → (t ≡ 0 → ⊥) → Counting rows cols g c (k + 1)
+    unfolding given
+    pass-given {t} w h =
+        let (q, l, b) = sum-some (rows * cols) (λ q. on (eqb (destOf rows cols g q) k) (countAt c q)) (omega (arith, w .1)) in
+        passed (λ v z. (
+          q,
+          l,
+          elim (test (eqb (destOf rows cols g q) k)) [
+            | inl e ↦ eqb-true (destOf rows cols g q) k e
+            | inr e ↦ absurd (let y : on (eqb (destOf rows cols g q) k) (countAt c q) ≡ 0 = on-false (countAt c q) e in omega arith)
+          ],
+        ))
+
+    -- a walk from place k is over
+    pub pass-walked : {d : List ℕ} → Moved rows cols g c d k (rows * cols) → Counting rows cols g d (k + 1)
+    pass-walked {d} m = record {
+      long = m .long;
+      right = m .right;
+      scanned = waits-past (rows * cols) (destOf rows cols g) (unit g) (countAt d) (rows * cols) (omega arith)
+          (m .scanned (k + 1) (scan-take (rows * cols) (destOf rows cols g) (unit g) (countAt c) k (s .scanned)));
+    }
+
+  -- ---- the end
+
+  module _ (c : List ℕ) (long : length g ≡ rows * cols) (s : Counting rows cols g c (rows * cols)) where
+    abbrev out : (p : ℕ) → rows * cols ≤ p → rows * cols ≤ destOf rows cols g p
+    out = dest-beyond rows cols g long
+
+    none-ahead : Waits (rows * cols) (destOf rows cols g) (unit g) (countAt c) (λ p. ⊥)
+    none-ahead = scan-end (rows * cols) (destOf rows cols g) (unit g) (countAt c) (rows * cols) (omega arith) (s .scanned)
+
+    weighs : (p : ℕ) → landAt g p ≡ true → 0 < unit g p
+    weighs p e = let u : unit g p ≡ 1 = on-true 1 e in omega arith
+
+    lands : (p : ℕ) → 0 < unit g p → landAt g p ≡ true
+    lands p v = elim (test (landAt g p)) [ inl e ↦ e | inr e ↦ absurd (let u : unit g p ≡ 0 = on-false 1 e in omega arith) ]
+
+    -- ZERO LEFT AFTER THE SCAN IS EXACTLY THE LOOP CELLS: of the land cells those on loops are left at 0, and no other
+    pub zero-left-iff-loop : (p : ℕ) → p < rows * cols → landAt g p ≡ true → (countAt c p ≡ 0) ↔ SheetOnLoop rows cols g p
+    zero-left-iff-loop p l e = scanned (rows * cols) (destOf rows cols g) (unit g) (countAt c) out (s .right) none-ahead (gives-unit rows cols g) p l (weighs p e)
+
+    -- nothing is left: there is no loop, and all is counted
+    pub none-left : ((p : ℕ) → p < rows * cols → landAt g p ≡ true → countAt c p ≡ 0 → ⊥) → SheetNoLoop rows cols g × SheetCounts rows cols g c
+    none-left none =
+        let free : SheetNoLoop rows cols g = scanned-free (rows * cols) (destOf rows cols g) (unit g) (countAt c) out (s .right) none-ahead (gives-unit rows cols g) (λ p l v z. none p l (lands p v) z) in
+        (free, scanned-counts (rows * cols) (destOf rows cols g) (unit g) (countAt c) out (s .right) none-ahead (gives-unit rows cols g) free)
+
+    -- the first land cell that is left is the smallest place on any loop
+    pub first-left-loop : (p : ℕ) → p < rows * cols → landAt g p ≡ true → countAt c p ≡ 0 → ((q : ℕ) → q < p → landAt g q ≡ true → countAt c q ≡ 0 → ⊥)
+        → SheetLoop rows cols g p (loopLength (rows * cols) (destOf rows cols g) p)
+    first-left-loop p l e z first =
+        scanned-first (rows * cols) (destOf rows cols g) (unit g) (countAt c) out (s .right) none-ahead (gives-unit rows cols g) p l (weighs p e) z (λ q lq v y. first q lq (lands q v) y)

@@ -1,0 +1,62 @@
+-- What the private functions of the look-around method promise each other. Nothing here is cited by the public promise.
+-- Assumes nothing.
+use mathlib.Core.Bool.{Bool, true, false, _&&_}
+use mathlib.Core.List.{List}
+use mathlib.Core.Logic.{_⊎_}
+use mathlib.Core.Path.{_≡_}
+use Prim.Native.Nat.{ℕ, _+_, _*_, _<_, _≤_}
+use lib.Dec.{eqb, ltb}
+use lib.ListN.{length}
+use Rattle.flow.specs.Net.{on}
+use Rattle.flow.proofs.LookStep.{Looked, zeros}
+use Rattle.flow.proofs.Scan.{Ahead}
+use Rattle.flow.proofs.Wait.{Waits}
+use Rattle.sheet.specs.Sheet.{landAt, destOf, unit, countAt}
+
+-- a sheet of an allowed size, with buffers of its length
+pub record Laid (rows cols : ℕ) (grid counts : List ℕ) : Type 0 where
+  pub rows-fit : rows ≤ 4096
+  pub cols-fit : cols ≤ 4096
+  pub grid-long : length grid ≡ rows * cols
+  pub counts-long : length counts ≡ rows * cols
+
+-- each cell that has a count has the right one, and so have its givers
+abbrev pub RightSoFar : (rows cols : ℕ) (grid counts : List ℕ) → Type 0
+RightSoFar rows cols grid counts = Looked (rows * cols) (destOf rows cols grid) (unit grid) (countAt counts)
+
+-- each land cell without a count waits for a giver without one, or the scan, which is at place k, has yet to come to it
+abbrev pub Scanned : (rows cols : ℕ) (grid counts : List ℕ) (k : ℕ) → Type 0
+Scanned rows cols grid counts k = Waits (rows * cols) (destOf rows cols grid) (unit grid) (countAt counts) (Ahead (rows * cols) (destOf rows cols grid) k)
+
+-- the same but for cell t, to which water has just come
+abbrev pub ScannedBut : (rows cols : ℕ) (grid counts : List ℕ) (k t : ℕ) → Type 0
+ScannedBut rows cols grid counts k t =
+    Waits (rows * cols) (destOf rows cols grid) (unit grid) (countAt counts) (λ p. (p ≡ t) ⊎ Ahead (rows * cols) (destOf rows cols grid) k p)
+
+-- t is a land cell without a count, or no cell
+abbrev pub ToCount : (rows cols : ℕ) (grid counts : List ℕ) (t : ℕ) → Type 0
+ToCount rows cols grid counts t = t < rows * cols → (landAt grid t ≡ true) × (countAt counts t ≡ 0)
+
+-- the scan is at place k: what is counted is right, and what is not is waited for
+pub record Counting (rows cols : ℕ) (grid counts : List ℕ) (k : ℕ) : Type 0 where
+  pub long : length counts ≡ rows * cols
+  pub right : RightSoFar rows cols grid counts
+  pub scanned : Scanned rows cols grid counts k
+
+-- from `before`, with water come to cell t, to `after`, with water come to cell u
+pub record Moved (rows cols : ℕ) (grid before after : List ℕ) (t u : ℕ) : Type 0 where
+  pub long : length after ≡ rows * cols
+  pub right : RightSoFar rows cols grid after
+  pub scanned : (k : ℕ) → ScannedBut rows cols grid before k t → ScannedBut rows cols grid after k u
+  pub to-count : ToCount rows cols grid after u
+
+-- how much is left to do: the cells without a count, and a cell that water has come to
+unfoldable pub left : (rows cols : ℕ) (counts : List ℕ) (t : ℕ) → ℕ
+left rows cols counts t = zeros (rows * cols) (countAt counts) + on (ltb t (rows * cols)) 1
+
+-- place q is a land cell without a count
+unfoldable pub leftAt : List ℕ → List ℕ → ℕ → Bool
+leftAt grid counts q = landAt grid q && eqb (countAt counts q) 0
+
+abbrev pub NotLeft : List ℕ → List ℕ → ℕ → Type 0
+NotLeft grid counts q = leftAt grid counts q ≡ false
