@@ -5,3 +5,7 @@ use mathlib.Core.List.{List}
 
 pub data Reply : Type 0 where
   reply : ℕ → List ℕ → Reply
+
+-- the paper's number of a reply
+abbrev pub numberOf : Reply → ℕ
+numberOf (reply n values) = n

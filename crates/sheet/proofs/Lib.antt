@@ -7,3 +7,4 @@ pub mod Bridge
 pub mod Inner
 pub mod Weigh
 pub mod Gather
+pub mod Passes

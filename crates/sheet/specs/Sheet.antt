@@ -1,14 +1,14 @@
 -- A sheet of paper 01: its places, land, where a cell's water goes, and with that its net. Downstream, loops and counts of a sheet are those
 -- of its net (crate flow). A grid is a list of codes, one a place, row by row from the north-west.
 -- Assumes nothing.
-use mathlib.Core.Bool.{Bool, true, false, cond, not, _&&_}
+use mathlib.Core.Bool.{Bool, true, false, cond, not, _&&_, _||_}
 use mathlib.Core.Path.{_≡_}
 use mathlib.Core.List.{List}
 use Prim.Native.Nat.{ℕ, _+_, _*_, _/_, _%_, _<_}
-use lib.Dec.{ltb}
+use lib.Dec.{eqb, ltb}
 use lib.IntN.{ℤ, pos, negsuc, _+ℤ_}
 use lib.ListN.{getD}
-use Rattle.flow.specs.Net.{on, Counts, Down, OnLoop, NoLoop, FirstLoop}
+use Rattle.flow.specs.Net.{on, Counts, Down, OnLoop, NoLoop, FirstLoop, downb}
 use Rattle.sheet.specs.Compass.{isArrow, isCode, stepOf}
 use Rattle.sheet.specs.declared.compass.Step.{Step}
 
@@ -77,6 +77,10 @@ SheetCounts rows cols g counts = Counts (rows * cols) (destOf rows cols g) (unit
 -- q is downstream of p: a land cell reached by following arrows from p, one step or more
 abbrev pub Downstream : ℕ → ℕ → List ℕ → ℕ → ℕ → Type 0
 Downstream rows cols g p q = (q < rows * cols) × Down (destOf rows cols g) p q
+
+-- q is a land cell whose water passes through p: it is p itself, or p is downstream of it
+unfoldable pub passes : ℕ → ℕ → List ℕ → ℕ → ℕ → Bool
+passes rows cols g p q = landAt g q && (eqb q p || downb (rows * cols) (destOf rows cols g) q p)
 
 -- p lies on a loop
 abbrev pub SheetOnLoop : ℕ → ℕ → List ℕ → ℕ → Type 0
