@@ -568,6 +568,27 @@ fn one_river(rows: usize, cols: usize) -> Sheet {
     Sheet { rows, cols, grid }
 }
 
+/// The same river with its mouth led down the first column and back to its source: one loop of all cells. The number of
+/// rows must be even.
+fn one_round(rows: usize, cols: usize) -> Sheet {
+    let mut sheet = one_river(rows, cols);
+    for (row, codes) in sheet.grid.chunks_mut(cols).enumerate() {
+        if row != 0 && row % 2 == 0 {
+            codes[1] = 64;
+        }
+        codes[0] = if row == rows - 1 { 1 } else { 4 };
+    }
+    sheet
+}
+
+fn one_loop(place: usize, length: usize, cells: usize) -> Outcome {
+    Outcome {
+        number: 4,
+        value: [place as u64, length as u64, 0, 0, 0, 0],
+        counts: After::Holds(vec![0; cells]),
+    }
+}
+
 fn run_large_sheets(tally: &mut Tally) -> Result<(), String> {
     let seed = 0x59 << 40;
     let mut draw = Draw::new(seed);
@@ -595,11 +616,7 @@ fn run_large_sheets(tally: &mut Tally) -> Result<(), String> {
         let mut sheet = sheets::winding(&mut draw, side, side, Absent(0));
         sheets::lay_a_ring(&mut sheet, ring, clockwise);
         let place = ring.top * side + ring.left;
-        let expected = Outcome {
-            number: 4,
-            value: [place as u64, ring.rim() as u64, 0, 0, 0, 0],
-            counts: After::Holds(vec![0; side * side]),
-        };
+        let expected = one_loop(place, ring.rim(), side * side);
         hold(tally, Call::of(&sheet), &expected, seed)?;
         compare_made(tally, &sheet, 4, seed)?;
     }
@@ -609,8 +626,19 @@ fn run_large_sheets(tally: &mut Tally) -> Result<(), String> {
         compare_made(tally, &sheet, 0, seed)?;
     }
 
-    // The greatest sheet, with the greatest count that there can be.
+    // The greatest sheet, with the greatest count that there can be, and with the longest loop.
     compare_made(tally, &one_river(4096, 4096), 0, seed)?;
+    let sheet = one_round(4096, 4096);
+    let cells = sheet.grid.len();
+    hold(tally, Call::of(&sheet), &one_loop(0, cells, cells), seed)?;
+    let sheet = one_round(300, 400);
+    hold(
+        tally,
+        Call::of(&sheet),
+        &one_loop(0, 120_000, 120_000),
+        seed,
+    )?;
+    compare_made(tally, &sheet, 4, seed)?;
     if long_run() {
         let sheet = sheets::winding(&mut draw, 4096, 4096, Absent(0));
         compare_made(tally, &sheet, 0, seed)?;

@@ -47,7 +47,7 @@ impl<T: Copy + PartialEq + Display + Debug> Lent<T> {
             let place = (0..content.len()).find(|&place| content[place] != expected[place]);
             let place = place.expect("the expected content has the buffer's length");
             return Err(format!(
-                "{name} holds {} at place {place}, expected {}",
+                "{name}: {} at place {place}, expected {}",
                 content[place], expected[place]
             ));
         }
