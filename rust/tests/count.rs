@@ -529,7 +529,7 @@ fn run_sides(tally: &mut Tally) -> Result<(), String> {
     ];
     for rows in sides {
         for cols in sides {
-            let seed = (0x58 << 40) + (rows as u64).rotate_left(20) + cols as u64;
+            let seed = (0x58 << 40) ^ (rows as u64).rotate_left(20) ^ cols as u64;
             let mut draw = Draw::new(seed);
             // The length that fits, also where the product is beyond 64 bits and what is left of it fits; a few cells
             // where so large a buffer cannot be had.
