@@ -18,7 +18,7 @@ use Rattle.sheet.specs.Sheet.{landAt, destOf, unit, countAt, SheetCounts, Sheet
 use Rattle.sheet.specs.declared.around.Around.the-variants.{Waiting, Ready}
 use Rattle.sheet.proofs.Dest.{dest-beyond, gives-unit}
 use Rattle.sheet.proofs.Weigh.{sum-some}
-use Rattle.count.specs.Method.{Laid, Counting, Moved, Scanned, ToCount}
+use Rattle.count.specs.Method.{Counting, Moved, Scanned, ToCount}
 
 module _ (rows cols : ℕ) (g : List ℕ) where
   -- ---- the start

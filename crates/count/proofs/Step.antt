@@ -5,7 +5,6 @@ use mathlib.Core.List.{List}
 use mathlib.Core.Logic.{_⊎_, inl, inr}
 use mathlib.Core.Path.{_≡_, refl, sym, ap, _∙_}
 use Prim.Native.Nat.{ℕ, suc, _+_, _*_, _<_, _≤_}
-use native.Mathlib.Nat.{mul-le-mul}
 use native.Mathlib.Omega.{arith}
 use lib.Dec.{ltb}
 use lib.ListN.{length, getD, set, length-set}
@@ -18,18 +17,13 @@ use Rattle.flow.proofs.Scan.{Ahead}
 use Rattle.flow.proofs.Sum.{same, on-true, on-false}
 use Rattle.flow.proofs.Bound.{on-le}
 use Rattle.flow.proofs.Wait.{Waits, waits-on, waits-stop, waits-past, waits-less}
-use Rattle.sheet.specs.Leaves.{Place, LooksAround}
+use Rattle.sheet.specs.Leaves.{Laid, LooksAround}
 use Rattle.sheet.specs.Sheet.{landAt, destOf, unit, countAt}
 use Rattle.sheet.specs.declared.around.Around.the-variants.{Waiting, Ready}
 use Rattle.sheet.proofs.Dest.{to-land, dest-beyond, gives-unit}
 use Rattle.sheet.proofs.Gather.{number-le}
-use Rattle.count.specs.Method.{Laid, RightSoFar, ScannedBut, ToCount, Moved, left}
-
-pub laid-area : {rows cols : ℕ} {g c : List ℕ} → Laid rows cols g c → rows * cols ≤ 16777216
-laid-area s = mul-le-mul (s .rows-fit) (s .cols-fit)
-
-pub place-of : {rows cols : ℕ} {g c : List ℕ} {p : ℕ} → Laid rows cols g c → p < rows * cols → Place rows cols p
-place-of s l = record { rows-fit = s .rows-fit; cols-fit = s .cols-fit; below = l }
+use Rattle.sheet.proofs.Places.{laid-area}
+use Rattle.count.specs.Method.{RightSoFar, ScannedBut, ToCount, Moved, left}
 
 module _ (rows cols : ℕ) (g c : List ℕ) (t : ℕ) (laid : Laid rows cols g c) (right : RightSoFar rows cols g c) (lt : t < rows * cols) (to-count : ToCount rows cols g c t) where
   land : landAt g t ≡ true
@@ -123,6 +117,3 @@ module _ (rows cols : ℕ) (g : List ℕ) where
         (waits-past (rows * cols) (destOf rows cols g) (unit g) (countAt b) u l (m .scanned k w));
     to-count = λ h. absurd (omega arith);
   }
-
-  pub laid-on : {a b : List ℕ} → Laid rows cols g a → length b ≡ rows * cols → Laid rows cols g b
-  laid-on s e = record { rows-fit = s .rows-fit; cols-fit = s .cols-fit; grid-long = s .grid-long; counts-long = e }

@@ -8,7 +8,7 @@ use Rattle.promise.specs.Links.{Unless, UnlessAll, UnlessSome, _then_}
 use Rattle.promise.specs.Reply.{Reply}
 use Rattle.promise.specs.Reply.Reply.{reply}
 use Rattle.sheet.specs.Shape.{SheetShape}
-use Rattle.sheet.specs.Sheet.{CodeOk, SheetCounts, SheetLoop}
+use Rattle.sheet.specs.Sheet.{CodeOk, SheetCounts, SheetLengths, LoopIn}
 use Rattle.sheet.specs.Totals.{landCells, outlets, greatestCount}
 use Rattle.count.specs.declared.CountReply.{CountReply}
 use Rattle.count.specs.declared.CountReply.the-variants.{Done, Shape, Length, Code, Loop}
@@ -28,20 +28,6 @@ pub record CountEnd : Type 0 where
 
 abbrev pub ends : Reply → List ℕ → CountEnd
 ends said counts = record { said = said; counts = counts }
-
--- grid and counts have as many elements as the sheet has cells
-pub record CountLengths (rows cols : ℕ) (grid counts : List ℕ) : Type 0 where
-  pub grid-long : length grid ≡ rows * cols
-  pub counts-long : length counts ≡ rows * cols
-
--- a place, and a number of cells
-pub record LoopFound : Type 0 where
-  pub place : ℕ
-  pub len : ℕ
-
--- the smallest place on any loop, and that loop's length
-abbrev pub LoopIn : ℕ → ℕ → List ℕ → LoopFound → Type 0
-LoopIn rows cols grid v = SheetLoop rows cols grid (v .place) (v .len)
 
 -- done: the counts satisfy equation 1 at every place; land, outlets and greatest count are returned
 pub record Counted (rows cols : ℕ) (grid : List ℕ) (e : CountEnd) : Type 0 where
@@ -65,5 +51,5 @@ CountCells rows cols grid counts =
 abbrev pub CountPromise : (rows cols : ℕ) (grid counts : List ℕ) → CountEnd → Type 0
 CountPromise rows cols grid counts =
     Unless (SheetShape rows cols) (ends (reply 1 []) counts) then
-    Unless (CountLengths rows cols grid counts) (ends (reply 2 []) counts) then
+    Unless (SheetLengths rows cols grid counts) (ends (reply 2 []) counts) then
     CountCells rows cols grid counts

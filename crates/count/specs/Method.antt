@@ -4,7 +4,7 @@ use mathlib.Core.Bool.{Bool, true, false, _&&_}
 use mathlib.Core.List.{List}
 use mathlib.Core.Logic.{_⊎_}
 use mathlib.Core.Path.{_≡_}
-use Prim.Native.Nat.{ℕ, _+_, _*_, _<_, _≤_}
+use Prim.Native.Nat.{ℕ, _+_, _*_, _<_}
 use lib.Dec.{eqb, ltb}
 use lib.ListN.{length}
 use Rattle.flow.specs.Net.{on}
@@ -12,13 +12,6 @@ use Rattle.flow.proofs.LookStep.{Looked, zeros}
 use Rattle.flow.proofs.Scan.{Ahead}
 use Rattle.flow.proofs.Wait.{Waits}
 use Rattle.sheet.specs.Sheet.{landAt, destOf, unit, countAt}
-
--- a sheet of an allowed size, with buffers of its length
-pub record Laid (rows cols : ℕ) (grid counts : List ℕ) : Type 0 where
-  pub rows-fit : rows ≤ 4096
-  pub cols-fit : cols ≤ 4096
-  pub grid-long : length grid ≡ rows * cols
-  pub counts-long : length counts ≡ rows * cols
 
 -- each cell that has a count has the right one, and so have its givers
 abbrev pub RightSoFar : (rows cols : ℕ) (grid counts : List ℕ) → Type 0

@@ -4,7 +4,8 @@ pub mod method;
 
 ghost use Prim.Native.Nat.{_*_};
 ghost use Rattle.sheet.specs.Shape.{SheetShape};
-ghost use Rattle.count.specs.Count.{CountPromise, CountCells, Answered, CountLengths, countReply, ends};
+ghost use Rattle.count.specs.Count.{CountPromise, CountCells, Answered, countReply, ends};
+ghost use Rattle.sheet.specs.Sheet.{SheetLengths};
 ghost use Rattle.count.specs.Method.{Counting};
 use crate::method::first_left;
 use crate::method::loop_length;
@@ -54,7 +55,7 @@ pub fn count(rows: usize, cols: usize, grid: &[u8], counts: &mut [u32]) -> Count
 // The same where shape and lengths fit.
 fn count_cells(rows: usize, cols: usize, grid: &[u8], counts: &mut [u32]) -> CountReply
     requires { ⌜ SheetShape rows cols ⌝ }
-    requires { ⌜ CountLengths rows cols (now grid) (now counts) ⌝ }
+    requires { ⌜ SheetLengths rows cols (now grid) (now counts) ⌝ }
     ensures { λ r. ⌜ CountCells rows cols (now (grid .entry)) (now (counts .entry)) (ends (countReply r) (now (counts .exit))) ⌝ }
 {
     if let Found::At(p) = first_bad_code(grid) {
@@ -68,7 +69,7 @@ fn count_cells(rows: usize, cols: usize, grid: &[u8], counts: &mut [u32]) -> Cou
 // What is said once the scan is over: the first land cell that is left without a count lies on a loop, and where none is left all is counted.
 fn answer(rows: usize, cols: usize, grid: &[u8], counts: &mut [u32]) -> CountReply
     requires { ⌜ SheetShape rows cols ⌝ }
-    requires { ⌜ CountLengths rows cols (now grid) (now counts) ⌝ }
+    requires { ⌜ SheetLengths rows cols (now grid) (now counts) ⌝ }
     requires { ⌜ Counting rows cols (now grid) (now counts) (rows * cols) ⌝ }
     ensures { λ r. ⌜ Answered rows cols (now (grid .entry)) (ends (countReply r) (now (counts .exit))) ⌝ }
 {

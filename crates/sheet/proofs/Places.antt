@@ -1,13 +1,15 @@
 -- Rows, columns and places: what is not linear.
 -- Assumes nothing.
+use mathlib.Core.List.{List}
 use mathlib.Core.Path.{_≡_, refl, sym, ap, _∙_}
+use lib.ListN.{length}
 use Prim.Native.Nat.{ℕ, zero, suc, _+_, _-_, _*_, _/_, _%_, _<_, _≤_}
 use native.Mathlib.Omega.{arith}
 use native.Mathlib.Nat.{mul-zero, mod-lt, div-lt-iff-lt-mul, mul-le-mul, mul-le-mul-right, suc-mul, div-add-mod', mul-add-div-right, mul-add-mod-self-right, div-eq-of-lt, mod-eq-of-lt}
 use mathlib.Core.Bool.{Bool, true, false, false≢true}
 use borrow.Author.Tests.{leb-true, le-leb}
 use Rattle.sheet.specs.Shape.{Within}
-use Rattle.sheet.specs.Leaves.{Place, Cell, within}
+use Rattle.sheet.specs.Leaves.{Place, Laid, Cell, within}
 
 pub cols-pos : (rows cols p : ℕ) → p < rows * cols → 0 < cols
 cols-pos rows zero p h = let h′ = rw (mul-zero rows) at h in absurd (omega arith)
@@ -71,3 +73,15 @@ within-place rows cols D R h l a b =
     let d = within-true D rows a in
     let r = within-true R cols b in
     (d .0, (r .0, omega (arith, mul-le-mul h l, place-lt rows cols (D - 1) (R - 1) (omega arith) (omega arith))))
+
+-- ---- a sheet with its buffers
+
+pub laid-area : {rows cols : ℕ} {g c : List ℕ} → Laid rows cols g c → rows * cols ≤ 16777216
+laid-area s = mul-le-mul (s .rows-fit) (s .cols-fit)
+
+pub place-of : {rows cols : ℕ} {g c : List ℕ} {p : ℕ} → Laid rows cols g c → p < rows * cols → Place rows cols p
+place-of s l = record { rows-fit = s .rows-fit; cols-fit = s .cols-fit; below = l }
+
+-- the same sheet with other counts
+pub laid-on : (rows cols : ℕ) (g : List ℕ) {a b : List ℕ} → Laid rows cols g a → length b ≡ rows * cols → Laid rows cols g b
+laid-on rows cols g s e = record { rows-fit = s .rows-fit; cols-fit = s .cols-fit; grid-long = s .grid-long; counts-long = e }

@@ -6,6 +6,7 @@ use mathlib.Core.Path.{_≡_}
 use Prim.Native.Nat.{ℕ, _+_, _*_, _/_, _%_, _<_, _≤_}
 use lib.Dec.{eqb, leb}
 use lib.IntN.{ℤ, pos, negsuc}
+use lib.ListN.{length}
 use Rattle.flow.specs.Net.{on, given}
 use Rattle.sheet.specs.Compass.{stepAt}
 use Rattle.sheet.specs.Sheet.{codeAt, countAt, stepFrom, destOf}
@@ -17,6 +18,13 @@ pub record Place (rows cols p : ℕ) : Type 0 where
   pub rows-fit : rows ≤ 4096
   pub cols-fit : cols ≤ 4096
   pub below : p < rows * cols
+
+-- a sheet of an allowed size, with buffers of its length
+pub record Laid (rows cols : ℕ) (grid counts : List ℕ) : Type 0 where
+  pub rows-fit : rows ≤ 4096
+  pub cols-fit : cols ≤ 4096
+  pub grid-long : length grid ≡ rows * cols
+  pub counts-long : length counts ≡ rows * cols
 
 -- what a look-around at p finds: some giver has no count yet, or all have one, and their sum
 abbrev pub LooksAround : ℕ → ℕ → List ℕ → List ℕ → ℕ → Around → Type 0

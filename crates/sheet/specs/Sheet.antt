@@ -7,7 +7,7 @@ use mathlib.Core.List.{List}
 use Prim.Native.Nat.{ℕ, _+_, _*_, _/_, _%_, _<_}
 use lib.Dec.{eqb, ltb}
 use lib.IntN.{ℤ, pos, negsuc, _+ℤ_}
-use lib.ListN.{getD}
+use lib.ListN.{length, getD}
 use Rattle.flow.specs.Net.{on, Counts, Down, OnLoop, NoLoop, FirstLoop, downb}
 use Rattle.sheet.specs.Compass.{isArrow, isCode, stepOf}
 use Rattle.sheet.specs.declared.compass.Step.{Step}
@@ -93,3 +93,18 @@ SheetNoLoop rows cols g = NoLoop (rows * cols) (destOf rows cols g)
 -- p is the smallest place on any loop, and that loop has `len` cells
 abbrev pub SheetLoop : ℕ → ℕ → List ℕ → ℕ → ℕ → Type 0
 SheetLoop rows cols g p len = FirstLoop (rows * cols) (destOf rows cols g) p len
+
+-- what refusal 4 returns: a place, and a number of cells
+pub record LoopFound : Type 0 where
+  pub place : ℕ
+  pub len : ℕ
+
+abbrev pub LoopIn : ℕ → ℕ → List ℕ → LoopFound → Type 0
+LoopIn rows cols g v = SheetLoop rows cols g (v .place) (v .len)
+
+-- ---- buffers
+
+-- grid and counts have as many elements as the sheet has cells
+pub record SheetLengths (rows cols : ℕ) (g counts : List ℕ) : Type 0 where
+  pub grid-long : length g ≡ rows * cols
+  pub counts-long : length counts ≡ rows * cols

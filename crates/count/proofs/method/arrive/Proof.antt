@@ -1,6 +1,7 @@
 -- `count::method::arrive` meets its contract: a cell that waits, or a step of the method.
 -- Assumes nothing.
-use Rattle.count.proofs.Step.{place-of, waited, waited-less}
+use Rattle.sheet.proofs.Places.{place-of}
+use Rattle.count.proofs.Step.{waited, waited-less}
 use borrow.Author.Needs.{needs}
 use Rattle.count.proofs.method.arrive.Statement.{statement}
 use Rattle.count.proofs.method.arrive.Tie as tie

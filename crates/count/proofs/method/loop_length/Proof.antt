@@ -10,7 +10,7 @@ use Rattle.flow.proofs.Round.{round-ends}
 use Rattle.sheet.specs.Sheet.{destOf}
 use Rattle.sheet.proofs.Dest.{dest-beyond}
 use Rattle.count.proofs.Left.{round-inside, round-on}
-use Rattle.count.proofs.Step.{laid-area, place-of}
+use Rattle.sheet.proofs.Places.{laid-area, place-of}
 use Rattle.count.proofs.method.loop_length.Statement.{statement}
 use Rattle.count.proofs.method.loop_length.Tie as tie
 

@@ -5,7 +5,7 @@ use native.Mathlib.Omega.{arith}
 use Prim.Native.Nat.{ℕ, _-_, _*_, _≤_}
 use Rattle.count.specs.Method.{Counting}
 use Rattle.count.proofs.Scan.{scan-begins}
-use Rattle.count.proofs.Step.{laid-area, laid-on}
+use Rattle.sheet.proofs.Places.{laid-area, laid-on}
 use borrow.Author.Needs.{needs}
 use Rattle.count.proofs.method.scan.Statement.{statement}
 use Rattle.count.proofs.method.scan.Tie as tie

@@ -5,7 +5,8 @@ use native.Mathlib.Omega.{arith}
 use borrow.Author.Tests.{not-true, not-false}
 use Rattle.sheet.proofs.Dest.{land-read}
 use Rattle.count.proofs.Scan.{pass-counted, pass-absent, pass-waiting, pass-given, pass-walked}
-use Rattle.count.proofs.Step.{place-of, moved-on}
+use Rattle.sheet.proofs.Places.{place-of}
+use Rattle.count.proofs.Step.{moved-on}
 use borrow.Author.Needs.{needs}
 use Rattle.count.proofs.method.scan_place.Statement.{statement}
 use Rattle.count.proofs.method.scan_place.Tie as tie

@@ -2,7 +2,8 @@
 -- Assumes nothing.
 use native.Mathlib.Omega.{arith}
 use Rattle.count.specs.Method.{Moved, left}
-use Rattle.count.proofs.Step.{laid-area, laid-on, moved-none, moved-on, moved-end}
+use Rattle.sheet.proofs.Places.{laid-area, laid-on}
+use Rattle.count.proofs.Step.{moved-none, moved-on, moved-end}
 use Rattle.count.proofs.method.walk.Statement.{statement}
 use Rattle.count.proofs.method.walk.Tie as tie
 
