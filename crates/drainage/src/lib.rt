@@ -1,0 +1,52 @@
+// What C and Rust call: one thin function for each operation, with the operation's promise. include/drainage.h declares the same for C.
+ghost use mathlib.Core.Path.{_≡_};
+ghost use mathlib.Core.List.{[], _∷_};
+ghost use Rattle.promise.specs.Reply.{Reply};
+ghost use Rattle.promise.specs.Reply.Reply.{reply};
+ghost use Rattle.count.specs.Count.{CountPromise, ends};
+ghost use Rattle.drainage.specs.Flat.{flat};
+use count::CountReply;
+
+// The paper's number of a reply and its values, 0 where there is none.
+#[repr(C)]
+pub struct Flat {
+    pub number: u32,
+    pub value0: u64,
+    pub value1: u64,
+    pub value2: u64,
+    pub value3: u64,
+    pub value4: u64,
+    pub value5: u64,
+}
+
+// A reply of at most three values; those that it has not are 0.
+fn replied(number: u32, first: u64, second: u64, third: u64) -> Flat
+    ensures { λ r. ⌜ r ≡ flat (reply number (first ∷ second ∷ third ∷ [])) ⌝ }
+{
+    Flat {
+        number,
+        value0: first,
+        value1: second,
+        value2: third,
+        value3: 0,
+        value4: 0,
+        value5: 0,
+    }
+}
+
+#[no_mangle]
+pub extern "C" fn drainage_count(rows: usize, cols: usize, grid: &[u8], counts: &mut [u32]) -> Flat
+    ensures { λ r. ⌜ ((s : Reply) × CountPromise rows cols (now (grid .entry)) (now (counts .entry)) (ends s (now (counts .exit))) × (r ≡ flat s)) ⌝ }
+{
+    match count::count(rows, cols, grid, counts) {
+        CountReply::Done {
+            land,
+            outlets,
+            greatest,
+        } => replied(0, land as u64, outlets as u64, greatest as u64),
+        CountReply::Shape => replied(1, 0, 0, 0),
+        CountReply::Length => replied(2, 0, 0, 0),
+        CountReply::Code(place) => replied(3, place as u64, 0, 0),
+        CountReply::Loop { place, length } => replied(4, place as u64, length as u64, 0),
+    }
+}
