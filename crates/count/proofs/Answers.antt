@@ -14,11 +14,11 @@ use Rattle.flow.specs.Net.{number, loopLength}
 use Rattle.flow.proofs.Loop.{first-loop-free}
 use Rattle.flow.proofs.Sum.{test}
 use Rattle.sheet.specs.Sheet.{landAt, destOf, countAt, SheetLoop, SheetOnLoop}
-use Rattle.sheet.specs.Totals.{outlets, greatestBelow}
+use Rattle.sheet.specs.Totals.{greatestBelow}
 use Rattle.count.specs.Count.{Answered, CountEnd, ends}
-use Rattle.count.specs.Method.{Counting, NotLeft, leftAt}
+use Rattle.count.specs.Method.{Counting, NotLeft, found, leftAt}
 use Rattle.count.proofs.Left.{left-says, left-not}
-use Rattle.count.proofs.Scan.{none-left, first-left-loop}
+use Rattle.count.proofs.Scan.{none-left, first-left-loop, all-found}
 
 module _ (rows cols : ℕ) (g c : List ℕ) (long : length g ≡ rows * cols) (s : Counting rows cols g c (rows * cols)) where
   -- a land cell is left: the first is the answer
@@ -40,12 +40,12 @@ module _ (rows cols : ℕ) (g c : List ℕ) (long : length g ≡ rows * cols) (s
         refused-with (record { place = p; len = len }) (rw e left-first) (ap (λ (x : List ℕ). ends (reply 4 (p ∷ len ∷ [])) x) (z ∙ ap (λ (n : ℕ). replicate n 0) (s .long)))
 
   -- none is left: all is counted
-  pub answers-done : ((q : ℕ) → q < length g → NotLeft g c q) → {land out greatest : ℕ} → land ≡ number (length g) (landAt g) → out ≡ outlets rows cols g
+  pub answers-done : ((q : ℕ) → q < length g → NotLeft g c q) → {land out greatest : ℕ} → land ≡ number (length g) (landAt g) → found rows cols g c ≡ out
       → greatest ≡ greatestBelow (length c) (countAt c) → Answered rows cols g (ends (reply 0 (land ∷ out ∷ greatest ∷ [])) c)
   answers-done none {land} {out} {greatest} a b d =
       let (free, counts) = none-left rows cols g c long s (λ p l. left-not g c p (none p (omega arith))) in
       met-none (λ v first. first-loop-free free first) record {
         long = s .long;
         equation = counts;
-        said-is = rw (a, b, d, long, s .long);
+        said-is = rw (a, sym b ∙ all-found rows cols g c (λ p l. left-not g c p (none p (omega arith))), d, long, s .long);
       }

@@ -1,6 +1,6 @@
 -- The scan over a sheet: how it starts, what each place does to what is known, and what is known when it is over.
 -- Assumes nothing.
-use mathlib.Core.Bool.{true, false, true≢false}
+use mathlib.Core.Bool.{true, false, not, _&&_, true≢false}
 use mathlib.Core.List.{List}
 use mathlib.Core.Logic.{_⊎_, inl, inr, _↔_}
 use mathlib.Core.Path.{_≡_, refl, sym, ap, _∙_}
@@ -8,17 +8,19 @@ use Prim.Native.Nat.{ℕ, _+_, _*_, _<_, _≤_}
 use native.Mathlib.Omega.{arith}
 use lib.Dec.{eqb}
 use lib.ListN.{length, getD, replicate, length-replicate, getD-replicate}
-use borrow.Author.Tests.{eqb-true}
+use borrow.Author.Tests.{eqb-true, eq-eqb, ne-eqb}
 use Rattle.flow.specs.Net.{on, sum, given, loopLength, OnLoop, NoLoop, FirstLoop, Counts}
 use Rattle.flow.proofs.Scan.{Ahead, looked-start, scan-start, scan-take, scan-next, scan-end, scanned, scanned-counts, scanned-free, scanned-first}
-use Rattle.flow.proofs.Sum.{test, on-true, on-false}
+use Rattle.flow.proofs.Sum.{test, on-true, on-false, on-ne, sum-none, sum-ext}
 use Rattle.flow.proofs.Wait.{Waits, waits-past}
 use Rattle.sheet.specs.Leaves.{LooksAround}
-use Rattle.sheet.specs.Sheet.{landAt, destOf, unit, countAt, SheetCounts, SheetNoLoop, SheetLoop, SheetOnLoop}
+use Rattle.sheet.specs.Sheet.{landAt, destOf, outletAt, unit, countAt, SheetCounts, SheetNoLoop, SheetLoop, SheetOnLoop}
 use Rattle.sheet.specs.declared.around.Around.the-variants.{Waiting, Ready}
-use Rattle.sheet.proofs.Dest.{dest-beyond, gives-unit}
+use Rattle.sheet.specs.Totals.{outlets}
+use Rattle.sheet.proofs.Dest.{dest-beyond, gives-unit, outlet-iff}
+use Rattle.sheet.proofs.Gather.{number-le}
 use Rattle.sheet.proofs.Weigh.{sum-some}
-use Rattle.count.specs.Method.{Counting, Moved, Scanned, ToCount}
+use Rattle.count.specs.Method.{Counting, Moved, found}
 
 module _ (rows cols : ℕ) (g : List ℕ) where
   -- ---- the start
@@ -32,7 +34,31 @@ module _ (rows cols : ℕ) (g : List ℕ) where
         scanned = scan-start (rows * cols) (destOf rows cols g) (unit g) (countAt c) zeros;
       }
 
+  -- where nothing is counted, no outlet is
+  pub none-found : {c : List ℕ} → c ≡ replicate (rows * cols) 0 → found rows cols g c ≡ 0
+  unfolding found
+  none-found {c} e = sum-none (λ p l. elim (test (outletAt rows cols g p)) [
+    | inl t ↦ rw (t, eq-eqb (countAt c p) 0 (ap (λ (x : List ℕ). countAt x p) e ∙ getD-replicate (rows * cols) p 0 0 l))
+    | inr t ↦ rw t
+  ])
+
+  -- where each land cell is counted, each outlet is
+  pub all-found : (c : List ℕ) → ((p : ℕ) → p < rows * cols → landAt g p ≡ true → countAt c p ≡ 0 → ⊥) → found rows cols g c ≡ outlets rows cols g
+  unfolding found
+  all-found c none = sum-ext (λ p l. elim (test (outletAt rows cols g p)) [
+    | inl t ↦ rw (t, ne-eqb (countAt c p) 0 (none p l (outlet-iff rows cols g p .0 t .0)))
+    | inr t ↦ rw t
+  ])
+
+  pub found-le : (c : List ℕ) → found rows cols g c ≤ rows * cols
+  unfolding found
+  found-le c = number-le (rows * cols) (λ p. outletAt rows cols g p && not (eqb (countAt c p) 0))
+
   -- ---- one place
+
+  -- the same place, told by another number
+  pub scan-place-on : (c : List ℕ) {k l : ℕ} → k ≡ l → Counting rows cols g c k → Counting rows cols g c l
+  scan-place-on c e s = rw (sym e) s
 
   module _ (c : List ℕ) (k : ℕ) (s : Counting rows cols g c k) where
     passed : (0 < unit g k → countAt c k ≡ 0 → (q : ℕ) × (q < rows * cols) × (destOf rows cols g q ≡ k)) → Counting rows cols g c (k + 1)
@@ -62,13 +88,17 @@ module _ (rows cols : ℕ) (g : List ℕ) where
         ))
 
     -- a walk from place k is over
-    pub pass-walked : {d : List ℕ} → Moved rows cols g c d k (rows * cols) → Counting rows cols g d (k + 1)
-    pass-walked {d} m = record {
+    pub pass-walked : {d : List ℕ} {u : ℕ} → rows * cols ≤ u → Moved rows cols g c d k u → Counting rows cols g d (k + 1)
+    pass-walked {d} {u} h m = record {
       long = m .long;
       right = m .right;
-      scanned = waits-past (rows * cols) (destOf rows cols g) (unit g) (countAt d) (rows * cols) (omega arith)
+      scanned = waits-past (rows * cols) (destOf rows cols g) (unit g) (countAt d) u h
           (m .scanned (k + 1) (scan-take (rows * cols) (destOf rows cols g) (unit g) (countAt c) k (s .scanned)));
     }
+
+    -- and it counted as many outlets as it ended at
+    pub walk-found : {d : List ℕ} {u n : ℕ} → k < rows * cols → n ≡ on (eqb u (rows * cols)) 1 → Moved rows cols g c d k u → found rows cols g d ≡ found rows cols g c + n
+    walk-found l e m = omega (arith, e, m .outlets-on, on-ne k (rows * cols) 1 (λ x. omega arith))
 
   -- ---- the end
 

@@ -1,17 +1,17 @@
 -- What the private functions of the look-around method promise each other. Nothing here is cited by the public promise.
 -- Assumes nothing.
-use mathlib.Core.Bool.{Bool, true, false, _&&_}
+use mathlib.Core.Bool.{Bool, true, false, not, _&&_}
 use mathlib.Core.List.{List}
 use mathlib.Core.Logic.{_⊎_}
 use mathlib.Core.Path.{_≡_}
-use Prim.Native.Nat.{ℕ, _+_, _*_, _<_}
+use Prim.Native.Nat.{ℕ, _+_, _*_, _<_, _≤_}
 use lib.Dec.{eqb, ltb}
 use lib.ListN.{length}
-use Rattle.flow.specs.Net.{on}
+use Rattle.flow.specs.Net.{on, number}
 use Rattle.flow.proofs.LookStep.{Looked, zeros}
 use Rattle.flow.proofs.Scan.{Ahead}
 use Rattle.flow.proofs.Wait.{Waits}
-use Rattle.sheet.specs.Sheet.{landAt, destOf, unit, countAt}
+use Rattle.sheet.specs.Sheet.{landAt, destOf, outletAt, unit, countAt}
 
 -- each cell that has a count has the right one, and so have its givers
 abbrev pub RightSoFar : (rows cols : ℕ) (grid counts : List ℕ) → Type 0
@@ -36,12 +36,30 @@ pub record Counting (rows cols : ℕ) (grid counts : List ℕ) (k : ℕ) : Type 
   pub right : RightSoFar rows cols grid counts
   pub scanned : Scanned rows cols grid counts k
 
--- from `before`, with water come to cell t, to `after`, with water come to cell u
+-- how many outlets have their count
+unfoldable pub found : (rows cols : ℕ) (grid counts : List ℕ) → ℕ
+found rows cols grid counts = number (rows * cols) (λ p. outletAt rows cols grid p && not (eqb (countAt counts p) 0))
+
+-- from `before`, with water come to place t, to `after`, with water come to place u; rows × cols says that it has left at an outlet
 pub record Moved (rows cols : ℕ) (grid before after : List ℕ) (t u : ℕ) : Type 0 where
   pub long : length after ≡ rows * cols
   pub right : RightSoFar rows cols grid after
   pub scanned : (k : ℕ) → ScannedBut rows cols grid before k t → ScannedBut rows cols grid after k u
   pub to-count : ToCount rows cols grid after u
+  pub outlets-on : found rows cols grid after + on (eqb t (rows * cols)) 1 ≡ found rows cols grid before + on (eqb u (rows * cols)) 1
+
+-- where a step ends: at a cell, at (rows, 0), which is none, or at (rows + 1, 0), where a cell has to wait
+pub record Ends (rows cols r c : ℕ) : Type 0 where
+  pub row-le : r ≤ rows + 1
+  pub col-in : c < cols
+  pub none-is : r ≡ rows → c ≡ 0
+
+-- a walk from place t is over, and ends at n outlets
+pub record Walked (rows cols : ℕ) (grid before after : List ℕ) (t n : ℕ) : Type 0 where
+  pub at : ℕ
+  pub over : rows * cols ≤ at
+  pub moved : Moved rows cols grid before after t at
+  pub number-is : n ≡ on (eqb at (rows * cols)) 1
 
 -- how much is left to do: the cells without a count, and a cell that water has come to
 unfoldable pub left : (rows cols : ℕ) (counts : List ℕ) (t : ℕ) → ℕ

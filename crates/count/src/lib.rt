@@ -2,11 +2,12 @@
 // givers have counts. What then holds 0 on land lies on a loop.
 pub mod method;
 
+ghost use mathlib.Core.Path.{_≡_};
 ghost use Prim.Native.Nat.{_*_};
 ghost use Rattle.sheet.specs.Shape.{SheetShape};
 ghost use Rattle.count.specs.Count.{CountPromise, CountCells, Answered, countReply, ends};
 ghost use Rattle.sheet.specs.Sheet.{SheetLengths};
-ghost use Rattle.count.specs.Method.{Counting};
+ghost use Rattle.count.specs.Method.{Counting, found};
 use crate::method::first_left;
 use crate::method::loop_length;
 use crate::method::scan;
@@ -17,7 +18,6 @@ use sheet::totals::clear;
 use sheet::totals::first_bad_code;
 use sheet::totals::greatest;
 use sheet::totals::land_number;
-use sheet::totals::outlet_number;
 
 // The paper's replies to counting.
 pub enum CountReply {
@@ -62,15 +62,16 @@ fn count_cells(rows: usize, cols: usize, grid: &[u8], counts: &mut [u32]) -> Cou
         return CountReply::Code(p);
     }
     clear(counts);
-    scan(rows, cols, grid, counts);
-    answer(rows, cols, grid, counts)
+    let outlets = scan(rows, cols, grid, counts);
+    answer(rows, cols, grid, counts, outlets)
 }
 
 // What is said once the scan is over: the first land cell that is left without a count lies on a loop, and where none is left all is counted.
-fn answer(rows: usize, cols: usize, grid: &[u8], counts: &mut [u32]) -> CountReply
+fn answer(rows: usize, cols: usize, grid: &[u8], counts: &mut [u32], outlets: usize) -> CountReply
     requires { ⌜ SheetShape rows cols ⌝ }
     requires { ⌜ SheetLengths rows cols (now grid) (now counts) ⌝ }
     requires { ⌜ Counting rows cols (now grid) (now counts) (rows * cols) ⌝ }
+    requires { ⌜ found rows cols (now grid) (now counts) ≡ outlets ⌝ }
     ensures { λ r. ⌜ Answered rows cols (now (grid .entry)) (ends (countReply r) (now (counts .exit))) ⌝ }
 {
     match first_left(grid, counts) {
@@ -81,7 +82,6 @@ fn answer(rows: usize, cols: usize, grid: &[u8], counts: &mut [u32]) -> CountRep
         }
         Found::Nothing => {
             let land = land_number(grid);
-            let outlets = outlet_number(rows, cols, grid);
             let most = greatest(counts);
             CountReply::Done {
                 land,

@@ -2,94 +2,145 @@
 ghost use mathlib.Core.Path.{_≡_};
 ghost use Prim.Native.Nat.{_+_, _*_, _<_};
 ghost use lib.ListN.{length, replicate};
-ghost use Rattle.flow.specs.Net.{loopLength};
+ghost use Rattle.flow.specs.Net.{number, loopLength};
 ghost use Rattle.promise.specs.First.{Finds};
-ghost use Rattle.sheet.specs.Leaves.{Laid, LooksAround};
+ghost use Rattle.sheet.specs.Leaves.{Laid, Cell, LooksAround};
 ghost use Rattle.sheet.specs.Sheet.{destOf, SheetOnLoop};
-ghost use Rattle.count.specs.Method.{RightSoFar, Counting, Moved, ToCount, NotLeft, left, leftAt};
+ghost use Rattle.count.specs.Method.{RightSoFar, Counting, Moved, Walked, Ends, ToCount, NotLeft, found, left, leftAt};
 use promise::Found;
 use sheet::around::Around;
 use sheet::around::look_around;
 use sheet::compass::is_arrow;
+use sheet::step::Spot;
 use sheet::step::dest;
+use sheet::step::dest_at;
 
-// Writes the count of cell p, whose givers all have theirs and come to `sum`, and answers the cell that its water goes to, or rows * cols.
-fn settle(rows: usize, cols: usize, grid: &[u8], counts: &mut [u32], p: usize, sum: u64) -> usize
-    requires { ⌜ Laid rows cols (now grid) (now counts) ⌝ }
+// Writes the count of the cell at row r and column c, whose givers all have theirs and come to `sum`, and answers the spot that its water
+// goes to, or (rows, 0) where the cell is an outlet.
+fn settle(
+    rows: usize,
+    cols: usize,
+    grid: &[u8],
+    counts: &mut [u32],
+    r: usize,
+    c: usize,
+    sum: u64,
+) -> Spot
+    requires { ⌜ Laid rows cols (now grid) (now counts) × Cell rows cols r c ⌝ }
     requires { ⌜ RightSoFar rows cols (now grid) (now counts) ⌝ }
-    requires { ⌜ (p < rows * cols) × ToCount rows cols (now grid) (now counts) p ⌝ }
-    requires { ⌜ LooksAround rows cols (now grid) (now counts) p (Around.Ready sum) ⌝ }
-    ensures { λ r. ⌜ Moved rows cols (now (grid .entry)) (now (counts .entry)) (now (counts .exit)) p r ⌝ }
-    ensures { λ r. ⌜ left rows cols (now (counts .exit)) r < left rows cols (now (counts .entry)) p ⌝ }
+    requires { ⌜ ToCount rows cols (now grid) (now counts) (r * cols + c) ⌝ }
+    requires { ⌜ LooksAround rows cols (now grid) (now counts) (r * cols + c) (Around.Ready sum) ⌝ }
+    ensures { λ s. ⌜ Moved rows cols (now (grid .entry)) (now (counts .entry)) (now (counts .exit)) (r * cols + c) (s .row * cols + s .col) ⌝ }
+    ensures { λ s. ⌜ Ends rows cols (s .row) (s .col) ⌝ }
+    ensures { λ s. ⌜ left rows cols (now (counts .exit)) (s .row * cols + s .col) < left rows cols (now (counts .entry)) (r * cols + c) ⌝ }
 {
-    counts[p] = (sum + 1) as u32;
-    dest(rows, cols, grid, p)
+    counts[r * cols + c] = (sum + 1) as u32;
+    dest_at(rows, cols, grid, r, c)
 }
 
-// Water has come to the land cell p: its count is written where all its givers have theirs. Answers the cell that the water goes on to, or
-// rows * cols where there is none or p has to wait.
-fn arrive(rows: usize, cols: usize, grid: &[u8], counts: &mut [u32], p: usize) -> usize
-    requires { ⌜ Laid rows cols (now grid) (now counts) ⌝ }
+// Water has come to the land cell at row r and column c: its count is written where all its givers have theirs. Answers the spot that the
+// water goes on to, (rows, 0) where it leaves, or (rows + 1, 0) where the cell has to wait.
+fn arrive(rows: usize, cols: usize, grid: &[u8], counts: &mut [u32], r: usize, c: usize) -> Spot
+    requires { ⌜ Laid rows cols (now grid) (now counts) × Cell rows cols r c ⌝ }
     requires { ⌜ RightSoFar rows cols (now grid) (now counts) ⌝ }
-    requires { ⌜ (p < rows * cols) × ToCount rows cols (now grid) (now counts) p ⌝ }
-    ensures { λ r. ⌜ Moved rows cols (now (grid .entry)) (now (counts .entry)) (now (counts .exit)) p r ⌝ }
-    ensures { λ r. ⌜ left rows cols (now (counts .exit)) r < left rows cols (now (counts .entry)) p ⌝ }
+    requires { ⌜ ToCount rows cols (now grid) (now counts) (r * cols + c) ⌝ }
+    ensures { λ s. ⌜ Moved rows cols (now (grid .entry)) (now (counts .entry)) (now (counts .exit)) (r * cols + c) (s .row * cols + s .col) ⌝ }
+    ensures { λ s. ⌜ Ends rows cols (s .row) (s .col) ⌝ }
+    ensures { λ s. ⌜ left rows cols (now (counts .exit)) (s .row * cols + s .col) < left rows cols (now (counts .entry)) (r * cols + c) ⌝ }
 {
-    let none = rows * cols;
-    match look_around(rows, cols, grid, counts, p) {
-        Around::Waiting => none,
-        Around::Ready(sum) => settle(rows, cols, grid, counts, p, sum),
+    match look_around(rows, cols, grid, counts, r, c) {
+        Around::Waiting => Spot {
+            row: rows + 1,
+            col: 0,
+        },
+        Around::Ready(sum) => settle(rows, cols, grid, counts, r, c, sum),
     }
 }
 
-// From the cell `start`, where it is one, down while all givers have counts.
-fn walk(rows: usize, cols: usize, grid: &[u8], counts: &mut [u32], start: usize)
-    requires { ⌜ Laid rows cols (now grid) (now counts) ⌝ }
+// From the spot (r, c), where it is a cell, down while all givers have counts. Answers how many outlets the way ends at, 1 or 0.
+fn walk(rows: usize, cols: usize, grid: &[u8], counts: &mut [u32], r: usize, c: usize) -> usize
+    requires { ⌜ Laid rows cols (now grid) (now counts) × Ends rows cols r c ⌝ }
     requires { ⌜ RightSoFar rows cols (now grid) (now counts) ⌝ }
-    requires { ⌜ ToCount rows cols (now grid) (now counts) start ⌝ }
-    ensures { λ _. ⌜ Moved rows cols (now (grid .entry)) (now (counts .entry)) (now (counts .exit)) start (rows * cols) ⌝ }
+    requires { ⌜ ToCount rows cols (now grid) (now counts) (r * cols + c) ⌝ }
+    ensures { λ n. ⌜ Walked rows cols (now (grid .entry)) (now (counts .entry)) (now (counts .exit)) (r * cols + c) n ⌝ }
 {
-    let none = rows * cols;
-    let mut p = start;
-    while p < none {
-        p = arrive(rows, cols, grid, counts, p);
+    let mut row = r;
+    let mut col = c;
+    while row < rows {
+        let next = arrive(rows, cols, grid, counts, row, col);
+        row = next.row;
+        col = next.col;
     }
+    if row == rows {
+        return 1;
+    }
+    0
 }
 
-// The scan comes to place p: a land cell without givers gets its count, and the walk goes down from it.
-fn scan_place(rows: usize, cols: usize, grid: &[u8], counts: &mut [u32], p: usize)
-    requires { ⌜ Laid rows cols (now grid) (now counts) ⌝ }
-    requires { ⌜ Counting rows cols (now grid) (now counts) p ⌝ }
-    requires { ⌜ p < rows * cols ⌝ }
-    ensures { λ _. ⌜ Counting rows cols (now (grid .entry)) (now (counts .exit)) (p + 1) ⌝ }
+// The scan comes to row r and column c: a land cell without givers gets its count, and the walk goes down from it. Answers how many outlets
+// were counted.
+fn scan_place(
+    rows: usize,
+    cols: usize,
+    grid: &[u8],
+    counts: &mut [u32],
+    r: usize,
+    c: usize,
+) -> usize
+    requires { ⌜ Laid rows cols (now grid) (now counts) × Cell rows cols r c ⌝ }
+    requires { ⌜ Counting rows cols (now grid) (now counts) (r * cols + c) ⌝ }
+    ensures { λ n. ⌜ Counting rows cols (now (grid .entry)) (now (counts .exit)) (r * cols + c + 1) ⌝ }
+    ensures { λ n. ⌜ found rows cols (now (grid .entry)) (now (counts .exit)) ≡ found rows cols (now (grid .entry)) (now (counts .entry)) + n ⌝ }
 {
+    let p = r * cols + c;
     if counts[p] != 0 {
-        return;
+        return 0;
     }
     if !is_arrow(grid[p]) {
-        return;
+        return 0;
     }
-    match look_around(rows, cols, grid, counts, p) {
-        Around::Waiting => {}
+    match look_around(rows, cols, grid, counts, r, c) {
+        Around::Waiting => 0,
         Around::Ready(sum) => {
-            if sum == 0 {
-                let next = settle(rows, cols, grid, counts, p, sum);
-                walk(rows, cols, grid, counts, next);
+            if sum != 0 {
+                return 0;
             }
+            let next = settle(rows, cols, grid, counts, r, c, sum);
+            walk(rows, cols, grid, counts, next.row, next.col)
         }
     }
 }
 
-// Scans the cells by place, from cleared counts.
-pub fn scan(rows: usize, cols: usize, grid: &[u8], counts: &mut [u32])
+// Scans row r. Answers how many outlets were counted.
+fn scan_row(rows: usize, cols: usize, grid: &[u8], counts: &mut [u32], r: usize) -> usize
+    requires { ⌜ Laid rows cols (now grid) (now counts) × (r < rows) ⌝ }
+    requires { ⌜ Counting rows cols (now grid) (now counts) (r * cols) ⌝ }
+    ensures { λ n. ⌜ Counting rows cols (now (grid .entry)) (now (counts .exit)) (r * cols + cols) ⌝ }
+    ensures { λ n. ⌜ found rows cols (now (grid .entry)) (now (counts .exit)) ≡ found rows cols (now (grid .entry)) (now (counts .entry)) + n ⌝ }
+{
+    let mut n: usize = 0;
+    let mut c = 0;
+    while c < cols {
+        n += scan_place(rows, cols, grid, counts, r, c);
+        c += 1;
+    }
+    n
+}
+
+// Scans the cells by place, from cleared counts. Answers how many outlets were counted.
+pub fn scan(rows: usize, cols: usize, grid: &[u8], counts: &mut [u32]) -> usize
     requires { ⌜ Laid rows cols (now grid) (now counts) ⌝ }
     requires { ⌜ now counts ≡ replicate (rows * cols) 0 ⌝ }
-    ensures { λ _. ⌜ Counting rows cols (now (grid .entry)) (now (counts .exit)) (rows * cols) ⌝ }
+    ensures { λ n. ⌜ Counting rows cols (now (grid .entry)) (now (counts .exit)) (rows * cols) ⌝ }
+    ensures { λ n. ⌜ found rows cols (now (grid .entry)) (now (counts .exit)) ≡ n ⌝ }
 {
-    let none = rows * cols;
-    for p in 0..none {
-        scan_place(rows, cols, grid, counts, p);
+    let mut n: usize = 0;
+    let mut r = 0;
+    while r < rows {
+        n += scan_row(rows, cols, grid, counts, r);
+        r += 1;
     }
+    n
 }
 
 // Whether place p is a land cell that is left without a count.
@@ -97,14 +148,31 @@ fn is_left(grid: &[u8], counts: &[u32], p: usize) -> bool
     requires { ⌜ (p < length (now grid)) × (p < length (now counts)) ⌝ }
     ensures { λ r. ⌜ r ≡ leftAt (now (grid .entry)) (now (counts .entry)) p ⌝ }
 {
+    let land = is_arrow(grid[p]);
     if counts[p] != 0 {
         return false;
     }
-    is_arrow(grid[p])
+    land
 }
 
-// The first land cell that is left without a count.
-pub fn first_left(grid: &[u8], counts: &[u32]) -> Found
+// The number of land cells that are left without a count. (No early end, so that many cells are tested at once.)
+fn left_number(grid: &[u8], counts: &[u32]) -> usize
+    requires { ⌜ length (now grid) ≡ length (now counts) ⌝ }
+    ensures { λ r. ⌜ r ≡ number (length (now (grid .entry))) (leftAt (now (grid .entry)) (now (counts .entry))) ⌝ }
+{
+    let mut n: usize = 0;
+    let mut i = 0;
+    while i < grid.len() {
+        if is_left(grid, counts, i) {
+            n += 1;
+        }
+        i += 1;
+    }
+    n
+}
+
+// The first land cell that is left without a count, sought from the start.
+fn seek_left(grid: &[u8], counts: &[u32]) -> Found
     requires { ⌜ length (now grid) ≡ length (now counts) ⌝ }
     ensures { λ r. ⌜ Finds (length (now (grid .entry))) (NotLeft (now (grid .entry)) (now (counts .entry))) r ⌝ }
 {
@@ -116,6 +184,17 @@ pub fn first_left(grid: &[u8], counts: &[u32]) -> Found
         i += 1;
     }
     Found::Nothing
+}
+
+// The first land cell that is left without a count.
+pub fn first_left(grid: &[u8], counts: &[u32]) -> Found
+    requires { ⌜ length (now grid) ≡ length (now counts) ⌝ }
+    ensures { λ r. ⌜ Finds (length (now (grid .entry))) (NotLeft (now (grid .entry)) (now (counts .entry))) r ⌝ }
+{
+    if left_number(grid, counts) == 0 {
+        return Found::Nothing;
+    }
+    seek_left(grid, counts)
 }
 
 // The length of the loop that `start` lies on, by walking round it.

@@ -4,17 +4,21 @@ use mathlib.Core.Path.{_≡_, refl, sym, ap, _∙_}
 use mathlib.Core.Bool.{Bool, true, false, not, _&&_}
 use mathlib.Core.List.{List}
 use mathlib.Core.Logic.{inl, inr}
+use lib.ListN.{length, getD}
 use Prim.Native.Nat.{ℕ, zero, suc, _+_, _*_, _<_, _≤_, max}
 use native.Mathlib.Omega.{arith}
 use native.Mathlib.Numerals.{add-one}
 use lib.Dec.{leb, ltb}
-use borrow.Author.Tests.{lt-ltb, le-ltb, lt-leb, le-leb}
+use borrow.Author.Tests.{lt-ltb, le-ltb, lt-leb, le-leb, not-false}
 use Rattle.flow.specs.Net.{on, sum, number}
-use Rattle.flow.proofs.Sum.{sum-next, on-true, on-false, sum-ones, sum-mono}
+use Rattle.flow.proofs.Sum.{test, sum-next, on-true, on-false, sum-ones, sum-mono, sum-at-least}
 use Rattle.flow.proofs.Bound.{on-le}
 use Rattle.flow.proofs.Walk.{below}
-use Rattle.sheet.specs.Sheet.{landAt, destOf, outletAt}
+use Rattle.sheet.specs.Sheet.{codeAt, CodeOk, landAt, destOf, outletAt}
+use Rattle.sheet.specs.Compass.{isCode}
+use Rattle.sheet.specs.Leaves.{badAt}
 use Rattle.sheet.specs.Totals.{greatestBelow}
+use Rattle.sheet.proofs.Dest.{code-read}
 
 -- a place that passes the test, and one that does not
 module _ (passes : ℕ → Bool) (i : ℕ) {n : ℕ} (so-far : n ≡ number i passes) where
@@ -46,3 +50,20 @@ module _ (rows cols : ℕ) (g : List ℕ) (p : ℕ) where
     | inl l ↦ rw (lt-ltb q (rows * cols) l, lt-leb (rows * cols) q l)
     | inr l ↦ rw (le-ltb q (rows * cols) l, le-leb (rows * cols) q l)
   ])
+
+-- no place passes a test that none passes
+pub number-none : (n : ℕ) (passes : ℕ → Bool) → number n passes ≡ 0 → (p : ℕ) → p < n → passes p ≡ false
+number-none n passes e p l = elim (test (passes p)) [
+  | inl t ↦ absurd (omega (arith, sum-at-least n p (λ q. on (passes q) 1) l, on-true 1 t))
+  | inr t ↦ t
+]
+
+-- ---- bad codes
+
+pub bad-read : (g : List ℕ) (p : ℕ) {b : Bool} → p < length g → b ≡ isCode (getD g p 0) → badAt g p ≡ not b
+unfolding badAt
+bad-read g p l e = ap (λ x. not (isCode x)) (sym (code-read g p l)) ∙ ap not (sym e)
+
+pub none-bad : (g : List ℕ) → number (length g) (badAt g) ≡ 0 → (p : ℕ) → p < length g → CodeOk g p
+unfolding badAt
+none-bad g e p l = not-false (isCode (codeAt g p)) (number-none (length g) (badAt g) e p l)

@@ -7,10 +7,11 @@ use native.Mathlib.Omega.{arith}
 use native.Mathlib.Nat.{div-add-mod', mul-le-mul-right, suc-mul}
 use native.Mathlib.Numerals.{add-one}
 use Rattle.sheet.specs.Compass.{stepAt}
-use Rattle.sheet.specs.Leaves.{Place, Inner, lift, opposite, comesFrom, adds, term}
+use Rattle.sheet.specs.Leaves.{Place, Cell, Inner, lift, opposite, comesFrom, adds, term}
 use Rattle.sheet.proofs.Signed.{step-is, row-small, col-small, lift-small}
-use Rattle.sheet.proofs.Places.{place-lt, true-within}
+use Rattle.sheet.proofs.Places.{place-lt, true-within, row-of, col-of}
 use Rattle.sheet.proofs.Bridge.{opposite-lt}
+use Rattle.sheet.proofs.Spots.{cell-place}
 
 -- the rows before, at and after row r
 rows-around : (cols r : ℕ) → 1 ≤ r → ((r + 0 - 1) * cols + cols ≡ r * cols) × ((r + 1 - 1) * cols ≡ r * cols) × ((r + 2 - 1) * cols ≡ r * cols + cols)
@@ -35,6 +36,13 @@ inner-place {rows} {cols} {p} s t b l r =
       above = omega (arith, mul-le-mul-right cols t);
       below = omega (arith, place-lt rows cols (p / cols + 1) (p % cols + 1) b r, suc-mul (p / cols) cols, ap (λ n. n * cols) (add-one (p / cols)));
     }
+
+-- the same of a row and a column
+pub inner-cell : {rows cols r c : ℕ} → Cell rows cols r c → 1 ≤ r → r + 1 < rows → 1 ≤ c → c + 1 < cols → Inner rows cols (r * cols + c)
+inner-cell {rows} {cols} {r} {c} s t b l h =
+    let row = row-of cols r c (s .col-in) in
+    let col = col-of cols r c (s .col-in) in
+    inner-place (cell-place s) (omega arith) (omega arith) (omega arith) (omega arith)
 
 module _ (rows cols : ℕ) (g : List ℕ) (w : ℕ → ℕ) (p : ℕ) (in-p : Inner rows cols p) where
   from-is : (j : ℕ) → comesFrom rows cols p j ≡ (p / cols + lift (stepAt (opposite j) .1) - 1) * cols + (p % cols + lift (stepAt (opposite j) .2) - 1)

@@ -1,6 +1,6 @@
 -- What the leaves ask of their callers and what a look-around answers; last, what the private functions among them promise.
 -- Assumes nothing.
-use mathlib.Core.Bool.{Bool, cond, _&&_}
+use mathlib.Core.Bool.{Bool, cond, not, _&&_}
 use mathlib.Core.List.{List}
 use mathlib.Core.Path.{_≡_}
 use Prim.Native.Nat.{ℕ, _+_, _*_, _/_, _%_, _<_, _≤_}
@@ -8,8 +8,9 @@ use lib.Dec.{eqb, leb}
 use lib.IntN.{ℤ, pos, negsuc}
 use lib.ListN.{length}
 use Rattle.flow.specs.Net.{on, given}
-use Rattle.sheet.specs.Compass.{stepAt}
+use Rattle.sheet.specs.Compass.{stepAt, isCode}
 use Rattle.sheet.specs.Sheet.{codeAt, countAt, stepFrom, destOf}
+use Rattle.sheet.specs.declared.step.Spot.{Spot}
 use Rattle.sheet.specs.declared.around.Around.{Around}
 use Rattle.sheet.specs.declared.around.Around.the-variants.{Waiting, Ready}
 
@@ -18,6 +19,20 @@ pub record Place (rows cols p : ℕ) : Type 0 where
   pub rows-fit : rows ≤ 4096
   pub cols-fit : cols ≤ 4096
   pub below : p < rows * cols
+
+-- r and c are a row and a column of a sheet of an allowed size
+pub record Cell (rows cols r c : ℕ) : Type 0 where
+  pub rows-fit : rows ≤ 4096
+  pub cols-fit : cols ≤ 4096
+  pub row-in : r < rows
+  pub col-in : c < cols
+
+-- a spot is that of place q: of a cell, or (rows, 0) where q is none
+pub record SpotOf (rows cols : ℕ) (s : Spot) (q : ℕ) : Type 0 where
+  pub place-is : s .row * cols + s .col ≡ q
+  pub row-le : s .row ≤ rows
+  pub col-in : s .col < cols
+  pub none-is : s .row ≡ rows → s .col ≡ 0
 
 -- a sheet of an allowed size, with buffers of its length
 pub record Laid (rows cols : ℕ) (grid counts : List ℕ) : Type 0 where
@@ -34,13 +49,6 @@ LooksAround rows cols g counts p (Ready s) =
     × (s ≡ given (rows * cols) (destOf rows cols g) (countAt counts) p)
 
 -- ---- of private functions
-
--- r and c are a row and a column of a sheet of an allowed size
-pub record Cell (rows cols r c : ℕ) : Type 0 where
-  pub rows-fit : rows ≤ 4096
-  pub cols-fit : cols ≤ 4096
-  pub row-in : r < rows
-  pub col-in : c < cols
 
 -- p is a place that is not on the sheet's edge
 pub record Inner (rows cols p : ℕ) : Type 0 where
@@ -90,3 +98,7 @@ weigh n = cond (eqb n 0) 1099511627776 n
 -- the counts so weighed
 abbrev pub weighed : List ℕ → ℕ → ℕ
 weighed counts q = weigh (countAt counts q)
+
+-- place p holds a bad code
+unfoldable pub badAt : List ℕ → ℕ → Bool
+badAt g p = not (isCode (codeAt g p))

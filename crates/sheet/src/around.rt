@@ -91,19 +91,17 @@ fn edge(rows: usize, cols: usize, grid: &[u8], counts: &[u32], r: usize, c: usiz
     east + south_east + south + south_west + west + north_west + north + north_east
 }
 
-// The sum over the eight neighbours of p whose arrows step onto p.
-fn neighbours(rows: usize, cols: usize, grid: &[u8], counts: &[u32], p: usize) -> u64
-    requires { ⌜ Place rows cols p ⌝ }
+// The sum over the eight neighbours of row r and column c whose arrows step onto that cell.
+fn neighbours(rows: usize, cols: usize, grid: &[u8], counts: &[u32], r: usize, c: usize) -> u64
+    requires { ⌜ Cell rows cols r c ⌝ }
     requires { ⌜ (length (now grid) ≡ rows * cols) × (length (now counts) ≡ rows * cols) ⌝ }
-    ensures { λ x. ⌜ x ≡ sum 8 (term rows cols (now (grid .entry)) (weighed (now (counts .entry))) p) ⌝ }
+    ensures { λ x. ⌜ x ≡ sum 8 (term rows cols (now (grid .entry)) (weighed (now (counts .entry))) (r * cols + c)) ⌝ }
 {
-    let r = p / cols;
-    let c = p % cols;
     if 1 <= r {
         if r + 1 < rows {
             if 1 <= c {
                 if c + 1 < cols {
-                    return inner(rows, cols, grid, counts, p);
+                    return inner(rows, cols, grid, counts, r * cols + c);
                 }
             }
         }
@@ -111,26 +109,50 @@ fn neighbours(rows: usize, cols: usize, grid: &[u8], counts: &[u32], p: usize) -
     edge(rows, cols, grid, counts, r, c)
 }
 
-// The look-around at the land cell p.
-pub fn look_around(rows: usize, cols: usize, grid: &[u8], counts: &[u32], p: usize) -> Around
-    requires { ⌜ Place rows cols p ⌝ }
+// The look-around at the land cell of row r and column c.
+pub fn look_around(
+    rows: usize,
+    cols: usize,
+    grid: &[u8],
+    counts: &[u32],
+    r: usize,
+    c: usize,
+) -> Around
+    requires { ⌜ Cell rows cols r c ⌝ }
     requires { ⌜ (length (now grid) ≡ rows * cols) × (length (now counts) ≡ rows * cols) ⌝ }
-    requires { ⌜ landAt (now grid) p ≡ true ⌝ }
-    ensures { λ r. ⌜ LooksAround rows cols (now (grid .entry)) (now (counts .entry)) p r ⌝ }
+    requires { ⌜ landAt (now grid) (r * cols + c) ≡ true ⌝ }
+    ensures { λ a. ⌜ LooksAround rows cols (now (grid .entry)) (now (counts .entry)) (r * cols + c) a ⌝ }
 {
-    let all = neighbours(rows, cols, grid, counts, p);
+    let all = neighbours(rows, cols, grid, counts, r, c);
     if all < 1099511627776 {
         return Around::Ready(all);
     }
     Around::Waiting
 }
 
-// The sum of the counts of the givers of the land cell p, whatever they hold.
+// The sum of the counts of the givers of the land cell of row r and column c, whatever they hold.
+pub fn givers_sum_at(
+    rows: usize,
+    cols: usize,
+    grid: &[u8],
+    counts: &[u32],
+    r: usize,
+    c: usize,
+) -> u64
+    requires { ⌜ Cell rows cols r c ⌝ }
+    requires { ⌜ (length (now grid) ≡ rows * cols) × (length (now counts) ≡ rows * cols) ⌝ }
+    requires { ⌜ landAt (now grid) (r * cols + c) ≡ true ⌝ }
+    ensures { λ x. ⌜ x ≡ given (rows * cols) (destOf rows cols (now (grid .entry))) (countAt (now (counts .entry))) (r * cols + c) ⌝ }
+{
+    neighbours(rows, cols, grid, counts, r, c) % 1099511627776
+}
+
+// The same of the land cell p.
 pub fn givers_sum(rows: usize, cols: usize, grid: &[u8], counts: &[u32], p: usize) -> u64
     requires { ⌜ Place rows cols p ⌝ }
     requires { ⌜ (length (now grid) ≡ rows * cols) × (length (now counts) ≡ rows * cols) ⌝ }
     requires { ⌜ landAt (now grid) p ≡ true ⌝ }
     ensures { λ r. ⌜ r ≡ given (rows * cols) (destOf rows cols (now (grid .entry))) (countAt (now (counts .entry))) p ⌝ }
 {
-    neighbours(rows, cols, grid, counts, p) % 1099511627776
+    givers_sum_at(rows, cols, grid, counts, p / cols, p % cols)
 }

@@ -5,12 +5,18 @@ ghost use Prim.Native.Nat.{_+_, _*_, _<_};
 ghost use lib.Dec.{T};
 ghost use lib.ListN.{length};
 ghost use Rattle.sheet.specs.Compass.{isArrow, stepOf};
-ghost use Rattle.sheet.specs.Leaves.{Place, Cell, small, lift};
+ghost use Rattle.sheet.specs.Leaves.{Place, Cell, SpotOf, small, lift};
 ghost use Rattle.sheet.specs.Sheet.{stepFrom, destOf};
 use crate::compass::Way;
 use crate::compass::is_arrow;
 use crate::compass::way_of;
 use crate::shape::is_within;
+
+// A row and a column. (rows, 0) stands for no cell: its place is rows * cols.
+pub struct Spot {
+    pub row: usize,
+    pub col: usize,
+}
 
 // One more than x moved by d: the one sum of signed numbers.
 fn moved(x: usize, d: i32) -> usize
@@ -44,43 +50,72 @@ fn col_after(x: usize, code: u8) -> usize
     }
 }
 
+// The spot one step of an arrow from row r and column c, or (rows, 0).
+fn spot_beside(rows: usize, cols: usize, r: usize, c: usize, code: u8) -> Spot
+    requires { ⌜ Cell rows cols r c ⌝ }
+    requires { ⌜ isArrow code ≡ true ⌝ }
+    ensures { λ s. ⌜ SpotOf rows cols s (stepFrom rows cols (stepOf code) (r * cols + c)) ⌝ }
+{
+    let down = row_after(r, code);
+    if is_within(down, rows) {
+        let right = col_after(c, code);
+        if is_within(right, cols) {
+            return Spot {
+                row: down - 1,
+                col: right - 1,
+            };
+        }
+    }
+    Spot { row: rows, col: 0 }
+}
+
 // The place one step of an arrow from row r and column c, or rows * cols.
 pub fn beside(rows: usize, cols: usize, r: usize, c: usize, code: u8) -> usize
     requires { ⌜ Cell rows cols r c ⌝ }
     requires { ⌜ isArrow code ≡ true ⌝ }
     ensures { λ x. ⌜ x ≡ stepFrom rows cols (stepOf code) (r * cols + c) ⌝ }
 {
-    let none = rows * cols;
-    let down = row_after(r, code);
-    if is_within(down, rows) {
-        let right = col_after(c, code);
-        if is_within(right, cols) {
-            return (down - 1) * cols + (right - 1);
-        }
-    }
-    none
+    let s = spot_beside(rows, cols, r, c, code);
+    s.row * cols + s.col
 }
 
-// The place one step of a code from p, or rows * cols. Each arm has its code written out, so that no table is looked into as it runs.
-fn stepped(rows: usize, cols: usize, p: usize, code: u8) -> usize
-    requires { ⌜ Place rows cols p ⌝ }
+// The spot one step of a code from row r and column c. Each arm has its code written out, so that no table is looked into as it runs.
+fn stepped(rows: usize, cols: usize, r: usize, c: usize, code: u8) -> Spot
+    requires { ⌜ Cell rows cols r c ⌝ }
     requires { ⌜ isArrow code ≡ true ⌝ }
-    ensures { λ r. ⌜ r ≡ stepFrom rows cols (stepOf code) p ⌝ }
+    ensures { λ s. ⌜ SpotOf rows cols s (stepFrom rows cols (stepOf code) (r * cols + c)) ⌝ }
 {
-    let none = rows * cols;
-    let r = p / cols;
-    let c = p % cols;
     match code {
-        1 => beside(rows, cols, r, c, 1),
-        2 => beside(rows, cols, r, c, 2),
-        4 => beside(rows, cols, r, c, 4),
-        8 => beside(rows, cols, r, c, 8),
-        16 => beside(rows, cols, r, c, 16),
-        32 => beside(rows, cols, r, c, 32),
-        64 => beside(rows, cols, r, c, 64),
-        128 => beside(rows, cols, r, c, 128),
-        _ => none,
+        1 => spot_beside(rows, cols, r, c, 1),
+        2 => spot_beside(rows, cols, r, c, 2),
+        4 => spot_beside(rows, cols, r, c, 4),
+        8 => spot_beside(rows, cols, r, c, 8),
+        16 => spot_beside(rows, cols, r, c, 16),
+        32 => spot_beside(rows, cols, r, c, 32),
+        64 => spot_beside(rows, cols, r, c, 64),
+        128 => spot_beside(rows, cols, r, c, 128),
+        _ => Spot { row: rows, col: 0 },
     }
+}
+
+// The spot of the land cell that the arrow at row r and column c steps onto, or (rows, 0). Nothing is divided.
+pub fn dest_at(rows: usize, cols: usize, grid: &[u8], r: usize, c: usize) -> Spot
+    requires { ⌜ Cell rows cols r c ⌝ }
+    requires { ⌜ length (now grid) ≡ rows * cols ⌝ }
+    ensures { λ s. ⌜ SpotOf rows cols s (destOf rows cols (now (grid .entry)) (r * cols + c)) ⌝ }
+{
+    let code = grid[r * cols + c];
+    if is_arrow(code) {
+        let s = stepped(rows, cols, r, c, code);
+        let row = s.row;
+        let col = s.col;
+        if row < rows {
+            if is_arrow(grid[row * cols + col]) {
+                return s;
+            }
+        }
+    }
+    Spot { row: rows, col: 0 }
 }
 
 // The land cell that the arrow of p steps onto, or rows * cols.
@@ -89,15 +124,6 @@ pub fn dest(rows: usize, cols: usize, grid: &[u8], p: usize) -> usize
     requires { ⌜ length (now grid) ≡ rows * cols ⌝ }
     ensures { λ r. ⌜ r ≡ destOf rows cols (now (grid .entry)) p ⌝ }
 {
-    let none = rows * cols;
-    let code = grid[p];
-    if is_arrow(code) {
-        let q = stepped(rows, cols, p, code);
-        if q < none {
-            if is_arrow(grid[q]) {
-                return q;
-            }
-        }
-    }
-    none
+    let s = dest_at(rows, cols, grid, p / cols, p % cols);
+    s.row * cols + s.col
 }

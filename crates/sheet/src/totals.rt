@@ -4,7 +4,7 @@ ghost use Prim.Native.Nat.{_*_};
 ghost use lib.ListN.{length, replicate};
 ghost use Rattle.flow.specs.Net.{number};
 ghost use Rattle.promise.specs.First.{Finds};
-ghost use Rattle.sheet.specs.Leaves.{Place};
+ghost use Rattle.sheet.specs.Leaves.{Place, badAt};
 ghost use Rattle.sheet.specs.Shape.{SheetShape};
 ghost use Rattle.sheet.specs.Sheet.{CodeOk, landAt, countAt, outletAt};
 ghost use Rattle.sheet.specs.Totals.{outlets, greatestBelow};
@@ -13,8 +13,23 @@ use crate::compass::is_code;
 use crate::step::dest;
 use promise::Found;
 
-// The first place with a bad code.
-pub fn first_bad_code(grid: &[u8]) -> Found
+// The number of bad codes. (No early end, so that many cells are tested at once.)
+fn bad_number(grid: &[u8]) -> usize
+    ensures { λ r. ⌜ r ≡ number (length (now (grid .entry))) (badAt (now (grid .entry))) ⌝ }
+{
+    let mut n: usize = 0;
+    let mut i = 0;
+    while i < grid.len() {
+        if !is_code(grid[i]) {
+            n += 1;
+        }
+        i += 1;
+    }
+    n
+}
+
+// The first place with a bad code, sought where it is known that there is one, or from the start.
+fn seek_bad_code(grid: &[u8]) -> Found
     ensures { λ r. ⌜ Finds (length (now (grid .entry))) (CodeOk (now (grid .entry))) r ⌝ }
 {
     let mut i = 0;
@@ -25,6 +40,16 @@ pub fn first_bad_code(grid: &[u8]) -> Found
         i += 1;
     }
     Found::Nothing
+}
+
+// The first place with a bad code.
+pub fn first_bad_code(grid: &[u8]) -> Found
+    ensures { λ r. ⌜ Finds (length (now (grid .entry))) (CodeOk (now (grid .entry))) r ⌝ }
+{
+    if bad_number(grid) == 0 {
+        return Found::Nothing;
+    }
+    seek_bad_code(grid)
 }
 
 // Clears a buffer.

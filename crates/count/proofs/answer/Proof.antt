@@ -16,7 +16,7 @@ loop-length-requires c κs =
     let s = c .before .before .before .before .before .before .before in
     let a = s .args in (
       record { rows-fit = s .pre .0 .rows-most; cols-fit = s .pre .0 .cols-most; grid-long = s .pre .1 .0 .grid-long; counts-long = s .pre .1 .0 .grid-long },
-      left-on-loop (a .rows) (a .cols) (a .grid .now) (a .counts .now) (s .pre .1 .0 .grid-long) (s .pre .1 .1) (rw (c .before .place .given .1) at (c .before .before .before .first-left .ensures)),
+      left-on-loop (a .rows) (a .cols) (a .grid .now) (a .counts .now) (s .pre .1 .0 .grid-long) (s .pre .1 .1 .0) (rw (c .before .place .given .1) at (c .before .before .before .first-left .ensures)),
     )
 
 clear-requires : tie.Need-clear-requires
@@ -28,9 +28,6 @@ enum-told c = search needs
 land-number-requires : tie.Need-land-number-requires
 land-number-requires c κs = search needs
 
-outlet-number-requires : tie.Need-outlet-number-requires
-outlet-number-requires c κs = search needs
-
 greatest-requires : tie.Need-greatest-requires
 greatest-requires c κs = search needs
 
@@ -41,16 +38,16 @@ returns : tie.Need-returns
 returns c =
     let s = c .before .before .before .before .before .before .before .before .before .before .before .before in
     let a = s .args in
-    answers-loop (a .rows) (a .cols) (a .grid .now) (a .counts .now) (s .pre .1 .0 .grid-long) (s .pre .1 .1) (rw (c .before .before .before .before .before .before .place .given .1) at (c .before .before .before .before .before .before .before .before .first-left .ensures)) (c .before .before .before .before .loop-length .ensures) (c .before .before .clear .ensures)
+    answers-loop (a .rows) (a .cols) (a .grid .now) (a .counts .now) (s .pre .1 .0 .grid-long) (s .pre .1 .1 .0) (rw (c .before .before .before .before .before .before .place .given .1) at (c .before .before .before .before .before .before .before .before .first-left .ensures)) (c .before .before .before .before .loop-length .ensures) (c .before .before .clear .ensures)
 
 same-length-2 : tie.Need-same-length-2
 same-length-2 c = search needs
 
 returns-2 : tie.Need-returns-2
 returns-2 c =
-    let s = c .before .before .before .before .before .before .before .before .before .before in
+    let s = c .before .before .before .before .before .before .before .before .before in
     let a = s .args in
-    answers-done (a .rows) (a .cols) (a .grid .now) (a .counts .now) (s .pre .1 .0 .grid-long) (s .pre .1 .1) (rw (c .before .before .before .before .enum-told .given .1) at (c .before .before .before .before .before .before .first-left .ensures)) (c .before .before .before .land-number .ensures) (c .before .before .outlet-number .ensures) (c .greatest .ensures)
+    answers-done (a .rows) (a .cols) (a .grid .now) (a .counts .now) (s .pre .1 .0 .grid-long) (s .pre .1 .1 .0) (rw (c .before .before .before .enum-told .given .1) at (c .before .before .before .before .before .first-left .ensures)) (c .before .before .land-number .ensures) (s .pre .1 .1 .1) (c .greatest .ensures)
 
 pub answer-spec : {M : Type 1} → statement M
 answer-spec =
@@ -62,7 +59,6 @@ answer-spec =
     clear-requires
     enum-told
     land-number-requires
-    outlet-number-requires
     greatest-requires
     same-length
     returns

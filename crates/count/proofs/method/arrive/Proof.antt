@@ -1,21 +1,23 @@
 -- `count::method::arrive` meets its contract: a cell that waits, or a step of the method.
 -- Assumes nothing.
-use Rattle.sheet.proofs.Places.{place-of}
-use Rattle.count.proofs.Step.{waited, waited-less}
+use Prim.Native.Nat.{_+_, _*_, _<_}
+use native.Mathlib.Omega.{arith}
+use Rattle.sheet.proofs.Spots.{cell-below}
+use Rattle.count.proofs.Step.{waited, waited-less, wait-ends, wait-past}
 use borrow.Author.Needs.{needs}
 use Rattle.count.proofs.method.arrive.Statement.{statement}
 use Rattle.count.proofs.method.arrive.Tie as tie
 
-mul-none : tie.Need-mul-none
-mul-none c = search needs
-
 look-around-requires : tie.Need-look-around-requires
 look-around-requires c κs =
     let s = c .before .before .before in
-    (place-of (s .pre .0) (s .pre .1 .1 .0), ((s .pre .0 .grid-long, s .pre .0 .counts-long), s .pre .1 .1 .1 (s .pre .1 .1 .0) .0))
+    (s .pre .0 .1, ((s .pre .0 .0 .grid-long, s .pre .0 .0 .counts-long), s .pre .1 .1 (cell-below (s .pre .0 .1)) .0))
 
 enum-told : tie.Need-enum-told
 enum-told c = search needs
+
+add-t12 : tie.Need-add-t12
+add-t12 c = search needs
 
 enum-known-sum : tie.Need-enum-known-sum
 enum-known-sum c = search needs
@@ -31,9 +33,11 @@ same-length c = search needs
 returns : tie.Need-returns
 returns c =
     let s = c .before .before .before .before .before .before in
-    let a = s .args in (
-      waited (a .rows) (a .cols) (a .grid .now) (a .counts .now) (a .p) (s .pre .0) (s .pre .1 .0) (s .pre .1 .1 .0) (s .pre .1 .1 .1) (rw (c .enum-told .given .1) at (c .before .before .look-around .ensures)),
-      waited-less (a .rows) (a .cols) (a .grid .now) (a .counts .now) (a .p) (s .pre .0) (s .pre .1 .0) (s .pre .1 .1 .0) (s .pre .1 .1 .1),
+    let a = s .args in
+    let some : 0 < a .cols = omega (arith, s .pre .0 .1 .col-in) in
+    let u = (a .rows + 1) * a .cols + 0 in (
+      waited (a .rows) (a .cols) (a .grid .now) (a .counts .now) (a .r * a .cols + a .c) (s .pre .0 .0) (s .pre .1 .0) (cell-below (s .pre .0 .1)) (s .pre .1 .1) u (wait-past (a .rows) (a .cols) some) (rw (c .enum-told .given .1) at (c .before .before .look-around .ensures)),
+      (wait-ends (a .rows) (a .cols) some, waited-less (a .rows) (a .cols) (a .grid .now) (a .counts .now) (a .r * a .cols + a .c) (s .pre .0 .0) (s .pre .1 .0) (cell-below (s .pre .0 .1)) (s .pre .1 .1) u (wait-past (a .rows) (a .cols) some)),
     )
 
 same-length-2 : tie.Need-same-length-2
@@ -46,9 +50,9 @@ pub arrive-spec : {M : Type 1} → statement M
 arrive-spec =
     tie.close
     (tie.spec
-    mul-none
     look-around-requires
     enum-told
+    add-t12
     enum-known-sum
     settle-requires
     same-length

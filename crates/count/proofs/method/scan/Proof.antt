@@ -1,45 +1,56 @@
--- `count::method::scan` meets its contract: each turn takes the scan one place on.
+-- `count::method::scan` meets its contract: each turn takes the scan one row on.
 -- Assumes nothing.
 use mathlib.Core.Path.{_≡_, sym, ap, _∙_}
+use native.Mathlib.Nat.{suc-mul}
+use native.Mathlib.Numerals.{add-one}
 use native.Mathlib.Omega.{arith}
-use Prim.Native.Nat.{ℕ, _-_, _*_, _≤_}
-use Rattle.count.specs.Method.{Counting}
-use Rattle.count.proofs.Scan.{scan-begins}
+use Prim.Native.Nat.{ℕ, _+_, _-_, _*_, _≤_, _<_}
 use Rattle.sheet.proofs.Places.{laid-area, laid-on}
+use Rattle.count.specs.Method.{Counting, found}
+use Rattle.count.proofs.Scan.{found-le, none-found, scan-begins, scan-place-on}
 use borrow.Author.Needs.{needs}
 use Rattle.count.proofs.method.scan.Statement.{statement}
 use Rattle.count.proofs.method.scan.Tie as tie
 
 abbrev Inv-loop : tie.InvT-loop
-Inv-loop rows cols grid counts₀ none p₀ counts p = (p ≤ none) × Counting rows cols grid counts p
+Inv-loop rows cols grid counts₀ n₀ r₀ counts n r = (r ≤ rows) × Counting rows cols grid counts (r * cols) × (found rows cols grid counts ≡ n)
 
 abbrev μ-loop : tie.MeasureT-loop
-μ-loop rows cols grid counts₀ none p₀ counts p = none - p
-
-mul-none : tie.Need-mul-none Inv-loop μ-loop
-mul-none c = record { fits = omega (arith, laid-area (c .before .before .pre .0)) }
+μ-loop rows cols grid counts₀ n₀ r₀ counts n r = rows - r
 
 loop-holds : tie.Need-loop-holds Inv-loop μ-loop
 loop-holds c =
     let s = c .before .before in
     let a = s .args in
-    (omega arith, scan-begins (a .rows) (a .cols) (a .grid .now) (s .pre .1))
+    (omega arith, scan-place-on (a .rows) (a .cols) (a .grid .now) (a .counts .now) (omega arith) (scan-begins (a .rows) (a .cols) (a .grid .now) (s .pre .1)), none-found (a .rows) (a .cols) (a .grid .now) (s .pre .1))
 
-scan-place-requires : tie.Need-scan-place-requires Inv-loop μ-loop
-scan-place-requires c κs =
+scan-row-requires : tie.Need-scan-row-requires Inv-loop μ-loop
+scan-row-requires c κs =
     let s = c .before .before .before .before .before in
     let a = s .args in
-    let m = c .before .before .loop .inv .1 in
-    (laid-on (a .rows) (a .cols) (a .grid .now) (s .pre .0) (m .long), (m, c .before .loop-test .taken))
+    let m = c .before .before .loop .inv in
+    ((laid-on (a .rows) (a .cols) (a .grid .now) (s .pre .0) (m .1 .long), c .before .loop-test .taken), m .1)
 
-add-p : tie.Need-add-p Inv-loop μ-loop
-add-p c = search needs
+add-n : tie.Need-add-n Inv-loop μ-loop
+add-n c =
+    let s = c .before .before .before .before .before .before .before .before in
+    let a = s .args in
+    record { fits = omega (arith, c .before .before .before .before .before .loop .inv .2, c .before .before .scan-row .ensures .1, found-le (a .rows) (a .cols) (a .grid .now) (c .before .before .scan-row .last .1 .1 .1 .0), laid-area (s .pre .0)) }
+
+add-r : tie.Need-add-r Inv-loop μ-loop
+add-r c = search needs
 
 loop-less : tie.Need-loop-less Inv-loop μ-loop
 loop-less c = search needs
 
 loop-again : tie.Need-loop-again Inv-loop μ-loop
-loop-again c = (omega arith, c .before .before .scan-place .ensures)
+loop-again c =
+    let s = c .before .before .before .before .before .before .before .before in
+    let a = s .args in (
+      omega arith,
+      scan-place-on (a .rows) (a .cols) (a .grid .now) _ (omega (arith, suc-mul (c .before .before .before .before .before .loop .r) (a .cols), ap (λ (x : ℕ). x * a .cols) (add-one (c .before .before .before .before .before .loop .r)))) (c .before .before .scan-row .ensures .0),
+      omega (arith, c .before .before .before .before .before .loop .inv .2, c .before .before .scan-row .ensures .1),
+    )
 
 same-length : tie.Need-same-length Inv-loop μ-loop
 same-length c = omega (arith, c .before .loop .inv .1 .long, c .before .before .before .before .pre .0 .counts-long)
@@ -48,8 +59,9 @@ returns : tie.Need-returns Inv-loop μ-loop
 returns c =
     let s = c .before .before .before .before in
     let a = s .args in
-    let all : c .before .loop .p ≡ a .rows * a .cols = omega arith in
-    rw all at (c .before .loop .inv .1)
+    let m = c .before .loop .inv in
+    let all : c .before .loop .r ≡ a .rows = omega arith in
+    (scan-place-on (a .rows) (a .cols) (a .grid .now) _ (ap (λ (x : ℕ). x * a .cols) all) (m .1), m .2)
 
 pub scan-spec : {M : Type 1} → statement M
 scan-spec =
@@ -57,10 +69,10 @@ scan-spec =
     (tie.spec
     Inv-loop
     μ-loop
-    mul-none
     loop-holds
-    scan-place-requires
-    add-p
+    scan-row-requires
+    add-n
+    add-r
     loop-less
     loop-again
     same-length

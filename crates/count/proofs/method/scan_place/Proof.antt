@@ -1,30 +1,37 @@
 -- `count::method::scan_place` meets its contract: a law for each way through it.
 -- Assumes nothing.
-use mathlib.Core.Path.{_≡_, sym, _∙_}
+use mathlib.Core.Path.{_≡_, refl, sym, _∙_}
+use Prim.Native.Nat.{_+_, _*_}
 use native.Mathlib.Omega.{arith}
 use borrow.Author.Tests.{not-true, not-false}
 use Rattle.sheet.proofs.Dest.{land-read}
-use Rattle.count.proofs.Scan.{pass-counted, pass-absent, pass-waiting, pass-given, pass-walked}
-use Rattle.sheet.proofs.Places.{place-of}
+use Rattle.sheet.proofs.Spots.{cell-below, cell-fits}
+use Rattle.count.proofs.Scan.{pass-counted, pass-absent, pass-waiting, pass-given, pass-walked, walk-found}
 use Rattle.count.proofs.Step.{moved-on}
 use borrow.Author.Needs.{needs}
 use Rattle.count.proofs.method.scan_place.Statement.{statement}
 use Rattle.count.proofs.method.scan_place.Tie as tie
 
+mul-p : tie.Need-mul-p
+mul-p c = record { fits = omega (arith, cell-fits (c .before .before .pre .0 .1)) }
+
+add-p : tie.Need-add-p
+add-p c = record { fits = omega (arith, cell-fits (c .before .before .pre .0 .1)) }
+
 mul-if1 : tie.Need-mul-if1
-mul-if1 c = search needs
+mul-if1 c = record { fits = omega (arith, cell-fits (c .before .before .pre .0 .1)) }
 
 slice-read-if1 : tie.Need-slice-read-if1
-slice-read-if1 c = search needs
+slice-read-if1 c = let s = c .before .before .before in omega (arith, cell-below (s .pre .0 .1), s .pre .0 .0 .counts-long)
 
 returns : tie.Need-returns
 returns c =
     let s = c .before .before .before .before in
     let a = s .args in
-    pass-counted (a .rows) (a .cols) (a .grid .now) (a .counts .now) (a .p) (s .pre .1 .0) (c .if1 .taken)
+    (pass-counted (a .rows) (a .cols) (a .grid .now) (a .counts .now) (a .r * a .cols + a .c) (s .pre .1) (c .if1 .taken), omega arith)
 
 shared-slice-read-is-arrow : tie.Need-shared-slice-read-is-arrow
-shared-slice-read-is-arrow c = search needs
+shared-slice-read-is-arrow c = let s = c .before .before .before .before .before in omega (arith, cell-below (s .pre .0 .1), s .pre .0 .0 .grid-long)
 
 is-arrow-requires : tie.Need-is-arrow-requires
 is-arrow-requires c κs = search needs
@@ -33,13 +40,13 @@ returns-2 : tie.Need-returns-2
 returns-2 c =
     let s = c .before .before .before .before .before .before .before in
     let a = s .args in
-    pass-absent (a .rows) (a .cols) (a .grid .now) (a .counts .now) (a .p) (s .pre .1 .0) (sym (land-read (a .grid .now) (a .p) (omega arith)) ∙ sym (c .before .is-arrow .ensures) ∙ not-true _ (c .if2 .taken))
+    (pass-absent (a .rows) (a .cols) (a .grid .now) (a .counts .now) (a .r * a .cols + a .c) (s .pre .1) (sym (land-read (a .grid .now) (a .r * a .cols + a .c) (omega (arith, cell-below (s .pre .0 .1), s .pre .0 .0 .grid-long))) ∙ sym (c .before .is-arrow .ensures) ∙ not-true _ (c .if2 .taken)), omega arith)
 
 look-around-requires : tie.Need-look-around-requires
 look-around-requires c κs =
     let s = c .before .before .before .before .before .before .before .before in
     let a = s .args in
-    (place-of (s .pre .0) (s .pre .1 .1), ((s .pre .0 .grid-long, s .pre .0 .counts-long), (sym (land-read (a .grid .now) (a .p) (omega arith)) ∙ sym (c .before .before .is-arrow .ensures) ∙ not-false _ (c .before .if2 .left))))
+    (s .pre .0 .1, ((s .pre .0 .0 .grid-long, s .pre .0 .0 .counts-long), (sym (land-read (a .grid .now) (a .r * a .cols + a .c) (omega (arith, cell-below (s .pre .0 .1), s .pre .0 .0 .grid-long))) ∙ sym (c .before .before .is-arrow .ensures) ∙ not-false _ (c .before .if2 .left))))
 
 enum-told : tie.Need-enum-told
 enum-told c = search needs
@@ -47,48 +54,50 @@ enum-told c = search needs
 enum-known-sum : tie.Need-enum-known-sum
 enum-known-sum c = search needs
 
-settle-requires : tie.Need-settle-requires
-settle-requires c κs =
-    let s = c .before .before .before .before .before .before .before .before .before .before .before .before .before .before in
-    let a = s .args in (
-      s .pre .0,
-      (s .pre .1 .0 .right, ((s .pre .1 .1, λ l. ((sym (land-read (a .grid .now) (a .p) (omega arith)) ∙ sym (c .before .before .before .before .before .before .before .before .is-arrow .ensures) ∙ not-false _ (c .before .before .before .before .before .before .before .if2 .left)), c .before .before .before .before .before .before .before .before .before .before .if1 .left)), rw (c .before .before .before .sum .given .1) at (c .before .before .before .before .before .look-around .ensures))),
-    )
-
-walk-requires : tie.Need-walk-requires
-walk-requires c κs = search needs
-
 same-length : tie.Need-same-length
 same-length c = search needs
 
 returns-3 : tie.Need-returns-3
 returns-3 c =
-    let s = c .before .before .before .before .before .before .before .before .before .before .before in
+    let s = c .before .before .before .before .before .before .before .before .before .before .before .before .before in
     let a = s .args in
-    pass-waiting (a .rows) (a .cols) (a .grid .now) (a .counts .now) (a .p) (s .pre .1 .0) (rw (c .enum-told .given .1) at (c .before .before .look-around .ensures))
+    (pass-given (a .rows) (a .cols) (a .grid .now) (a .counts .now) (a .r * a .cols + a .c) (s .pre .1) (rw (c .before .before .sum .given .1) at (c .before .before .before .before .look-around .ensures)) (c .if3 .taken), omega arith)
+
+settle-requires : tie.Need-settle-requires
+settle-requires c κs =
+    let s = c .before .before .before .before .before .before .before .before .before .before .before .before .before .before in
+    let a = s .args in
+    (s .pre .0, (s .pre .1 .right, ((λ l. ((sym (land-read (a .grid .now) (a .r * a .cols + a .c) (omega (arith, cell-below (s .pre .0 .1), s .pre .0 .0 .grid-long))) ∙ sym (c .before .before .before .before .before .before .before .before .is-arrow .ensures) ∙ not-false _ (c .before .before .before .before .before .before .before .if2 .left)), c .before .before .before .before .before .before .before .before .before .before .if1 .left)), rw (c .before .before .before .sum .given .1) at (c .before .before .before .before .before .look-around .ensures))))
+
+walk-requires : tie.Need-walk-requires
+walk-requires c κs = search needs
 
 same-length-2 : tie.Need-same-length-2
 same-length-2 c = search needs
 
 returns-4 : tie.Need-returns-4
 returns-4 c =
-    let s = c .before .before .before .before .before .before .before .before .before .before .before .before .before .before .before .before .before .before .before .before .before in
+    let s = c .before .before .before .before .before .before .before .before .before .before .before in
     let a = s .args in
-    pass-walked (a .rows) (a .cols) (a .grid .now) (a .counts .now) (a .p) (s .pre .1 .0) (moved-on (a .rows) (a .cols) (a .grid .now) (a .counts .now) _ _ (a .p) _ _ (c .before .before .before .before .before .before .settle .ensures .0) (c .before .before .walk .ensures))
+    (pass-waiting (a .rows) (a .cols) (a .grid .now) (a .counts .now) (a .r * a .cols + a .c) (s .pre .1) (rw (c .enum-told .given .1) at (c .before .before .look-around .ensures)), omega arith)
 
 same-length-3 : tie.Need-same-length-3
 same-length-3 c = search needs
 
 returns-5 : tie.Need-returns-5
 returns-5 c =
-    let s = c .before .before .before .before .before .before .before .before .before .before .before .before .before in
+    let s = c .before .before .before .before .before .before .before .before .before .before .before .before .before .before .before .before .before .before .before .before .before in
     let a = s .args in
-    pass-given (a .rows) (a .cols) (a .grid .now) (a .counts .now) (a .p) (s .pre .1 .0) (rw (c .before .before .sum .given .1) at (c .before .before .before .before .look-around .ensures)) (c .if3 .left)
+    let w = c .before .before .walk .ensures in
+    let m = moved-on (a .rows) (a .cols) (a .grid .now) (a .counts .now) _ _ (a .r * a .cols + a .c) _ _ (c .before .before .before .before .before .before .settle .ensures .0) (w .moved) in
+    (pass-walked (a .rows) (a .cols) (a .grid .now) (a .counts .now) (a .r * a .cols + a .c) (s .pre .1) (w .over) m, walk-found (a .rows) (a .cols) (a .grid .now) (a .counts .now) (a .r * a .cols + a .c) (s .pre .1) (cell-below (s .pre .0 .1)) (w .number-is) m)
 
 pub scan-place-spec : {M : Type 1} → statement M
 scan-place-spec =
     tie.close
     (tie.spec
+    mul-p
+    add-p
     mul-if1
     slice-read-if1
     returns
@@ -98,10 +107,10 @@ scan-place-spec =
     look-around-requires
     enum-told
     enum-known-sum
-    settle-requires
-    walk-requires
     same-length
     returns-3
+    settle-requires
+    walk-requires
     same-length-2
     returns-4
     same-length-3

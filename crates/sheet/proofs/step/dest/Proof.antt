@@ -1,58 +1,34 @@
--- `sheet::step::dest` meets its contract: a law of `destOf` for each way through it.
+-- `sheet::step::dest` meets its contract: the place of the spot.
 -- Assumes nothing.
-use mathlib.Core.Path.{sym, _∙_}
+use mathlib.Core.Path.{ap, _∙_}
 use native.Mathlib.Omega.{arith}
-use Rattle.sheet.proofs.Dest.{land-read, no-land, read-absent, read-land, read-out}
-use borrow.Author.Needs.{needs}
+use Rattle.sheet.specs.Sheet.{destOf}
+use Rattle.sheet.proofs.Places.{some-cols}
+use Rattle.sheet.proofs.Spots.{spot-fits, place-of-cell}
 use Rattle.sheet.proofs.step.dest.Statement.{statement}
 use Rattle.sheet.proofs.step.dest.Tie as tie
 
-mul-none : tie.Need-mul-none
-mul-none c = search needs
+div-dest-at : tie.Need-div-dest-at
+div-dest-at c = some-cols (c .before .pre .0)
 
-shared-slice-read-code : tie.Need-shared-slice-read-code
-shared-slice-read-code c = search needs
+rem-dest-at : tie.Need-rem-dest-at
+rem-dest-at c = some-cols (c .before .pre .0)
 
-is-arrow-requires : tie.Need-is-arrow-requires
-is-arrow-requires c κs = search needs
+dest-at-requires : tie.Need-dest-at-requires
+dest-at-requires c κs = (place-of-cell (c .before .pre .0) .0, c .before .pre .1)
 
-stepped-requires : tie.Need-stepped-requires
-stepped-requires c κs = (search needs, (sym (c .before .is-arrow .ensures) ∙ c .if1 .taken))
+mul-result : tie.Need-mul-result
+mul-result c = let s = c .before .before .before in record { fits = omega (arith, spot-fits (c .before .dest-at .ensures) (s .pre .0 .rows-fit) (s .pre .0 .cols-fit)) }
 
-shared-slice-read-is-arrow : tie.Need-shared-slice-read-is-arrow
-shared-slice-read-is-arrow c = search needs
-
-is-arrow-requires-2 : tie.Need-is-arrow-requires-2
-is-arrow-requires-2 c κs = search needs
+add-result : tie.Need-add-result
+add-result c = let s = c .before .before .before .before in record { fits = omega (arith, spot-fits (c .before .before .dest-at .ensures) (s .pre .0 .rows-fit) (s .pre .0 .cols-fit)) }
 
 returns : tie.Need-returns
 returns c =
-    read-land _ _ _ _ (omega arith) (sym (c .before .before .before .before .before .before .is-arrow .ensures) ∙ c .before .before .before .before .before .if1 .taken) (c .before .before .before .before .stepped .ensures)
-    (sym (land-read _ _ (omega arith)) ∙ sym (c .before .is-arrow2 .ensures) ∙ c .if3 .taken)
-
-returns-2 : tie.Need-returns-2
-returns-2 c =
-    read-out _ _ _ _ (omega arith) (sym (c .before .before .before .before .before .before .is-arrow .ensures) ∙ c .before .before .before .before .before .if1 .taken) (c .before .before .before .before .stepped .ensures)
-    (sym (land-read _ _ (omega arith)) ∙ sym (c .before .is-arrow2 .ensures) ∙ c .if3 .left)
-
-returns-3 : tie.Need-returns-3
-returns-3 c =
-    read-out _ _ _ _ (omega arith) (sym (c .before .before .before .is-arrow .ensures) ∙ c .before .before .if1 .taken) (c .before .stepped .ensures) (no-land _ _ (omega arith))
-
-returns-4 : tie.Need-returns-4
-returns-4 c = read-absent _ _ _ _ (omega arith) (sym (c .before .is-arrow .ensures) ∙ c .if1 .left)
+    let s = c .before .before .before .before in
+    let a = s .args in
+    c .before .before .dest-at .ensures .place-is ∙ ap (destOf (a .rows) (a .cols) (a .grid .now)) (place-of-cell (s .pre .0) .1)
 
 pub dest-spec : {M : Type 1} → statement M
 dest-spec =
-    tie.close
-    (tie.spec
-    mul-none
-    shared-slice-read-code
-    is-arrow-requires
-    stepped-requires
-    shared-slice-read-is-arrow
-    is-arrow-requires-2
-    returns
-    returns-2
-    returns-3
-    returns-4)
+    tie.close (tie.spec div-dest-at rem-dest-at dest-at-requires mul-result add-result returns)
