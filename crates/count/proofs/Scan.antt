@@ -10,12 +10,13 @@ use lib.Dec.{eqb}
 use lib.ListN.{length, getD, replicate, length-replicate, getD-replicate}
 use borrow.Author.Tests.{eqb-true, eq-eqb, ne-eqb}
 use Rattle.flow.specs.Net.{on, sum, given, loopLength, OnLoop, NoLoop, FirstLoop, Counts}
+use Rattle.flow.proofs.Count.{gives}
 use Rattle.flow.proofs.Scan.{Ahead, looked-start, scan-start, scan-take, scan-next, scan-end, scanned, scanned-counts, scanned-free, scanned-first}
 use Rattle.flow.proofs.Sum.{test, on-true, on-false, on-ne, sum-none, sum-ext}
 use Rattle.flow.proofs.Wait.{Waits, waits-past}
-use Rattle.sheet.specs.Leaves.{LooksAround}
+use Rattle.sheet.specs.Leaves.{LooksAround, one}
 use Rattle.sheet.specs.Sheet.{landAt, destOf, outletAt, unit, countAt, SheetCounts, SheetNoLoop, SheetLoop, SheetOnLoop}
-use Rattle.sheet.specs.declared.around.Around.the-variants.{Waiting, Ready}
+use Rattle.sheet.specs.declared.around.Around.the-variants.{Ready}
 use Rattle.sheet.specs.Totals.{outlets}
 use Rattle.sheet.proofs.Dest.{dest-beyond, gives-unit, outlet-iff}
 use Rattle.sheet.proofs.Gather.{number-le}
@@ -71,21 +72,27 @@ module _ (rows cols : ℕ) (g : List ℕ) where
     pub pass-absent : landAt g k ≡ false → Counting rows cols g c (k + 1)
     pass-absent e = passed (λ v z. absurd (let u : unit g k ≡ 0 = on-false 1 e in omega arith))
 
-    pub pass-waiting : LooksAround rows cols g c k Waiting → Counting rows cols g c (k + 1)
-    pass-waiting w = passed (λ v z. (w .0, w .1, w .2))
-
-    pub pass-given : {t : ℕ} → LooksAround rows cols g c k (Ready t) → (t ≡ 0 → ⊥) → Counting rows cols g c (k + 1)
+    pub pass-given : {t : ℕ} → t ≡ given (rows * cols) (destOf rows cols g) one k → (t ≡ 0 → ⊥) → Counting rows cols g c (k + 1)
     unfolding given
-    pass-given {t} w h =
-        let (q, l, b) = sum-some (rows * cols) (λ q. on (eqb (destOf rows cols g q) k) (countAt c q)) (omega (arith, w .1)) in
+    pass-given {t} e h =
+        let (q, l, b) = sum-some (rows * cols) (λ q. on (eqb (destOf rows cols g q) k) 1) (omega arith) in
         passed (λ v z. (
           q,
           l,
           elim (test (eqb (destOf rows cols g q) k)) [
-            | inl e ↦ eqb-true (destOf rows cols g q) k e
-            | inr e ↦ absurd (let y : on (eqb (destOf rows cols g q) k) (countAt c q) ≡ 0 = on-false (countAt c q) e in omega arith)
+            | inl x ↦ eqb-true (destOf rows cols g q) k x
+            | inr x ↦ absurd (let y : on (eqb (destOf rows cols g q) k) 1 ≡ 0 = on-false 1 x in omega arith)
           ],
         ))
+
+    -- where there is no giver, all are ready
+    pub none-given : {t : ℕ} → t ≡ given (rows * cols) (destOf rows cols g) one k → t ≡ 0 → LooksAround rows cols g c k (Ready 0)
+    unfolding given
+    none-given {t} e z =
+        let none : (q : ℕ) → q < rows * cols → destOf rows cols g q ≡ k → ⊥ = λ q l d. omega (arith, gives (rows * cols) (destOf rows cols g) one k q l d) in (
+          λ q l d y. none q l d,
+          sym (sum-none (λ q l. on-ne (destOf rows cols g q) k (countAt c q) (none q l))),
+        )
 
     -- a walk from place k is over
     pub pass-walked : {d : List ℕ} {u : ℕ} → rows * cols ≤ u → Moved rows cols g c d k u → Counting rows cols g d (k + 1)

@@ -9,6 +9,7 @@ ghost use Rattle.sheet.specs.Sheet.{destOf, SheetOnLoop};
 ghost use Rattle.count.specs.Method.{RightSoFar, Counting, Moved, Walked, Ends, ToCount, NotLeft, found, left, leftAt};
 use promise::Found;
 use sheet::around::Around;
+use sheet::around::giver_number;
 use sheet::around::look_around;
 use sheet::compass::is_arrow;
 use sheet::step::Spot;
@@ -99,16 +100,11 @@ fn scan_place(
     if !is_arrow(grid[p]) {
         return 0;
     }
-    match look_around(rows, cols, grid, counts, r, c) {
-        Around::Waiting => 0,
-        Around::Ready(sum) => {
-            if sum != 0 {
-                return 0;
-            }
-            let next = settle(rows, cols, grid, counts, r, c, sum);
-            walk(rows, cols, grid, counts, next.row, next.col)
-        }
+    if giver_number(rows, cols, grid, r, c) != 0 {
+        return 0;
     }
+    let next = settle(rows, cols, grid, counts, r, c, 0);
+    walk(rows, cols, grid, counts, next.row, next.col)
 }
 
 // Scans row r. Answers how many outlets were counted.

@@ -5,7 +5,7 @@ use mathlib.Core.Bool.{Bool, true, false, cond, _||_}
 use Prim.Native.Nat.{ℕ, _<_}
 use native.Mathlib.Omega.{arith}
 use borrow.Author.Tests.{ne-eqb}
-use Rattle.sheet.specs.Compass.{stepAt, stepOf, isArrow, isAbsent, isCode, wayOf}
+use Rattle.sheet.specs.Compass.{stepAt, stepOf, isArrow, isAbsent, wayOf}
 use Rattle.sheet.specs.declared.compass.Step.{Step}
 use Rattle.sheet.specs.declared.compass.Way.{Way}
 use Rattle.sheet.specs.declared.compass.Way.the-variants.{Arrow, Absent, Bad}
@@ -44,15 +44,3 @@ module _ (x : ℕ) where
   pub bad-way : ((k : ℕ) → k < 8 → stepAt k .0 ≡ x → ⊥) → (x ≡ 0 → ⊥) → (x ≡ 255 → ⊥) → Bad ≡ wayOf x
   unfolding wayOf isAbsent
   bad-way un a b = rw (no-arrow x un, ne-eqb x 0 a, ne-eqb x 255 b)
-
-  pub arrow-is-code : isArrow x ≡ true → isCode x ≡ true
-  unfolding isCode
-  arrow-is-code a = rw a
-
-  pub absent-is-code : isArrow x ≡ false → isAbsent x ≡ true → isCode x ≡ true
-  unfolding isCode
-  absent-is-code a b = rw (a, b)
-
-  pub bad-is-none : isArrow x ≡ false → isAbsent x ≡ false → isCode x ≡ false
-  unfolding isCode
-  bad-is-none a b = rw (a, b)

@@ -91,6 +91,10 @@ adds g w q x = on (eqb (codeAt g q) x) (w q)
 unfoldable pub term : ℕ → ℕ → List ℕ → (ℕ → ℕ) → ℕ → ℕ → ℕ
 term rows cols g w p j = adds g w (comesFrom rows cols p j) (stepAt j .0)
 
+-- 1 for each place
+abbrev pub one : ℕ → ℕ
+one q = 1
+
 -- a count, or where there is none yet a number above every sum of eight counts
 unfoldable pub weigh : ℕ → ℕ
 weigh n = cond (eqb n 0) 1099511627776 n

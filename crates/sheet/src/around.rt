@@ -5,7 +5,7 @@ ghost use Prim.Native.Nat.{_+_, _*_, _<_, _≤_};
 ghost use lib.ListN.{length};
 ghost use Rattle.flow.specs.Net.{sum, given};
 ghost use Rattle.sheet.specs.Compass.{isArrow, stepOf};
-ghost use Rattle.sheet.specs.Leaves.{Place, Cell, Inner, LooksAround, adds, term, weigh, weighed};
+ghost use Rattle.sheet.specs.Leaves.{Place, Cell, Inner, LooksAround, adds, term, one, weigh, weighed};
 ghost use Rattle.sheet.specs.Sheet.{landAt, countAt, stepFrom, destOf};
 use crate::step::beside;
 
@@ -107,6 +107,85 @@ fn neighbours(rows: usize, cols: usize, grid: &[u8], counts: &[u32], r: usize, c
         }
     }
     edge(rows, cols, grid, counts, r, c)
+}
+
+// 1 where place q has the code, else 0.
+fn has(grid: &[u8], q: usize, code: u8) -> u64
+    requires { ⌜ q < length (now grid) ⌝ }
+    ensures { λ x. ⌜ (x ≡ adds (now (grid .entry)) one q code) × (x ≤ 1) ⌝ }
+{
+    if grid[q] == code {
+        return 1;
+    }
+    0
+}
+
+// The same of the neighbour one step of `back` from row r and column c, where there is one.
+fn has_from(rows: usize, cols: usize, grid: &[u8], r: usize, c: usize, back: u8, code: u8) -> u64
+    requires { ⌜ Cell rows cols r c ⌝ }
+    requires { ⌜ length (now grid) ≡ rows * cols ⌝ }
+    requires { ⌜ (isArrow back ≡ true) × (isArrow code ≡ true) ⌝ }
+    ensures { λ x. ⌜ (x ≡ adds (now (grid .entry)) one (stepFrom rows cols (stepOf back) (r * cols + c)) code) × (x ≤ 1) ⌝ }
+{
+    let none = rows * cols;
+    let q = beside(rows, cols, r, c, back);
+    if q < none {
+        return has(grid, q, code);
+    }
+    0
+}
+
+// How many of the eight neighbours step onto a place that is not on the edge.
+fn inner_givers(rows: usize, cols: usize, grid: &[u8], p: usize) -> u64
+    requires { ⌜ Inner rows cols p ⌝ }
+    requires { ⌜ length (now grid) ≡ rows * cols ⌝ }
+    ensures { λ x. ⌜ x ≡ sum 8 (term rows cols (now (grid .entry)) one p) ⌝ }
+{
+    let east = has(grid, p - 1, 1);
+    let south_east = has(grid, p - cols - 1, 2);
+    let south = has(grid, p - cols, 4);
+    let south_west = has(grid, p - cols + 1, 8);
+    let west = has(grid, p + 1, 16);
+    let north_west = has(grid, p + cols + 1, 32);
+    let north = has(grid, p + cols, 64);
+    let north_east = has(grid, p + cols - 1, 128);
+    east + south_east + south + south_west + west + north_west + north + north_east
+}
+
+// The same of any place.
+fn edge_givers(rows: usize, cols: usize, grid: &[u8], r: usize, c: usize) -> u64
+    requires { ⌜ Cell rows cols r c ⌝ }
+    requires { ⌜ length (now grid) ≡ rows * cols ⌝ }
+    ensures { λ x. ⌜ x ≡ sum 8 (term rows cols (now (grid .entry)) one (r * cols + c)) ⌝ }
+{
+    let east = has_from(rows, cols, grid, r, c, 16, 1);
+    let south_east = has_from(rows, cols, grid, r, c, 32, 2);
+    let south = has_from(rows, cols, grid, r, c, 64, 4);
+    let south_west = has_from(rows, cols, grid, r, c, 128, 8);
+    let west = has_from(rows, cols, grid, r, c, 1, 16);
+    let north_west = has_from(rows, cols, grid, r, c, 2, 32);
+    let north = has_from(rows, cols, grid, r, c, 4, 64);
+    let north_east = has_from(rows, cols, grid, r, c, 8, 128);
+    east + south_east + south + south_west + west + north_west + north + north_east
+}
+
+// How many givers the land cell of row r and column c has. It reads no counts.
+pub fn giver_number(rows: usize, cols: usize, grid: &[u8], r: usize, c: usize) -> u64
+    requires { ⌜ Cell rows cols r c ⌝ }
+    requires { ⌜ length (now grid) ≡ rows * cols ⌝ }
+    requires { ⌜ landAt (now grid) (r * cols + c) ≡ true ⌝ }
+    ensures { λ x. ⌜ x ≡ given (rows * cols) (destOf rows cols (now (grid .entry))) one (r * cols + c) ⌝ }
+{
+    if 1 <= r {
+        if r + 1 < rows {
+            if 1 <= c {
+                if c + 1 < cols {
+                    return inner_givers(rows, cols, grid, r * cols + c);
+                }
+            }
+        }
+    }
+    edge_givers(rows, cols, grid, r, c)
 }
 
 // The look-around at the land cell of row r and column c.

@@ -58,9 +58,11 @@ pub fn is_arrow(code: u8) -> bool
 pub fn is_code(code: u8) -> bool
     ensures { λ r. ⌜ r ≡ isCode code ⌝ }
 {
-    match way_of(code) {
-        Way::Arrow(_) => true,
-        Way::Absent => true,
-        Way::Bad => false,
+    if is_arrow(code) {
+        return true;
     }
+    if code == 0 {
+        return true;
+    }
+    code == 255
 }

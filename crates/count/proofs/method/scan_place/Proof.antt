@@ -1,12 +1,12 @@
 -- `count::method::scan_place` meets its contract: a law for each way through it.
 -- Assumes nothing.
-use mathlib.Core.Path.{_≡_, refl, sym, _∙_}
+use mathlib.Core.Path.{_≡_, sym, _∙_}
 use Prim.Native.Nat.{_+_, _*_}
 use native.Mathlib.Omega.{arith}
 use borrow.Author.Tests.{not-true, not-false}
 use Rattle.sheet.proofs.Dest.{land-read}
 use Rattle.sheet.proofs.Spots.{cell-below, cell-fits}
-use Rattle.count.proofs.Scan.{pass-counted, pass-absent, pass-waiting, pass-given, pass-walked, walk-found}
+use Rattle.count.proofs.Scan.{pass-counted, pass-absent, pass-given, none-given, pass-walked, walk-found}
 use Rattle.count.proofs.Step.{moved-on}
 use borrow.Author.Needs.{needs}
 use Rattle.count.proofs.method.scan_place.Statement.{statement}
@@ -42,51 +42,33 @@ returns-2 c =
     let a = s .args in
     (pass-absent (a .rows) (a .cols) (a .grid .now) (a .counts .now) (a .r * a .cols + a .c) (s .pre .1) (sym (land-read (a .grid .now) (a .r * a .cols + a .c) (omega (arith, cell-below (s .pre .0 .1), s .pre .0 .0 .grid-long))) ∙ sym (c .before .is-arrow .ensures) ∙ not-true _ (c .if2 .taken)), omega arith)
 
-look-around-requires : tie.Need-look-around-requires
-look-around-requires c κs =
-    let s = c .before .before .before .before .before .before .before .before in
+giver-number-requires : tie.Need-giver-number-requires
+giver-number-requires c κs =
+    let s = c .before .before .before .before .before .before .before in
     let a = s .args in
-    (s .pre .0 .1, ((s .pre .0 .0 .grid-long, s .pre .0 .0 .counts-long), (sym (land-read (a .grid .now) (a .r * a .cols + a .c) (omega (arith, cell-below (s .pre .0 .1), s .pre .0 .0 .grid-long))) ∙ sym (c .before .before .is-arrow .ensures) ∙ not-false _ (c .before .if2 .left))))
-
-enum-told : tie.Need-enum-told
-enum-told c = search needs
-
-enum-known-sum : tie.Need-enum-known-sum
-enum-known-sum c = search needs
-
-same-length : tie.Need-same-length
-same-length c = search needs
+    (s .pre .0 .1, (s .pre .0 .0 .grid-long, (sym (land-read (a .grid .now) (a .r * a .cols + a .c) (omega (arith, cell-below (s .pre .0 .1), s .pre .0 .0 .grid-long))) ∙ sym (c .before .is-arrow .ensures) ∙ not-false _ (c .if2 .left))))
 
 returns-3 : tie.Need-returns-3
 returns-3 c =
-    let s = c .before .before .before .before .before .before .before .before .before .before .before .before .before in
+    let s = c .before .before .before .before .before .before .before .before .before in
     let a = s .args in
-    (pass-given (a .rows) (a .cols) (a .grid .now) (a .counts .now) (a .r * a .cols + a .c) (s .pre .1) (rw (c .before .before .sum .given .1) at (c .before .before .before .before .look-around .ensures)) (c .if3 .taken), omega arith)
+    (pass-given (a .rows) (a .cols) (a .grid .now) (a .counts .now) (a .r * a .cols + a .c) (s .pre .1) (c .before .giver-number .ensures) (c .if3 .taken), omega arith)
 
 settle-requires : tie.Need-settle-requires
 settle-requires c κs =
-    let s = c .before .before .before .before .before .before .before .before .before .before .before .before .before .before in
+    let s = c .before .before .before .before .before .before .before .before .before .before in
     let a = s .args in
-    (s .pre .0, (s .pre .1 .right, ((λ l. ((sym (land-read (a .grid .now) (a .r * a .cols + a .c) (omega (arith, cell-below (s .pre .0 .1), s .pre .0 .0 .grid-long))) ∙ sym (c .before .before .before .before .before .before .before .before .is-arrow .ensures) ∙ not-false _ (c .before .before .before .before .before .before .before .if2 .left)), c .before .before .before .before .before .before .before .before .before .before .if1 .left)), rw (c .before .before .before .sum .given .1) at (c .before .before .before .before .before .look-around .ensures))))
+    (s .pre .0, (s .pre .1 .right, ((λ l. ((sym (land-read (a .grid .now) (a .r * a .cols + a .c) (omega (arith, cell-below (s .pre .0 .1), s .pre .0 .0 .grid-long))) ∙ sym (c .before .before .before .before .is-arrow .ensures) ∙ not-false _ (c .before .before .before .if2 .left)), c .before .before .before .before .before .before .if1 .left)), none-given (a .rows) (a .cols) (a .grid .now) (a .counts .now) (a .r * a .cols + a .c) (s .pre .1) (c .before .before .giver-number .ensures) (c .before .if3 .left))))
 
 walk-requires : tie.Need-walk-requires
 walk-requires c κs = search needs
 
-same-length-2 : tie.Need-same-length-2
-same-length-2 c = search needs
+same-length : tie.Need-same-length
+same-length c = search needs
 
 returns-4 : tie.Need-returns-4
 returns-4 c =
-    let s = c .before .before .before .before .before .before .before .before .before .before .before in
-    let a = s .args in
-    (pass-waiting (a .rows) (a .cols) (a .grid .now) (a .counts .now) (a .r * a .cols + a .c) (s .pre .1) (rw (c .enum-told .given .1) at (c .before .before .look-around .ensures)), omega arith)
-
-same-length-3 : tie.Need-same-length-3
-same-length-3 c = search needs
-
-returns-5 : tie.Need-returns-5
-returns-5 c =
-    let s = c .before .before .before .before .before .before .before .before .before .before .before .before .before .before .before .before .before .before .before .before .before in
+    let s = c .before .before .before .before .before .before .before .before .before .before .before .before .before .before .before .before .before in
     let a = s .args in
     let w = c .before .before .walk .ensures in
     let m = moved-on (a .rows) (a .cols) (a .grid .now) (a .counts .now) _ _ (a .r * a .cols + a .c) _ _ (c .before .before .before .before .before .before .settle .ensures .0) (w .moved) in
@@ -104,14 +86,9 @@ scan-place-spec =
     shared-slice-read-is-arrow
     is-arrow-requires
     returns-2
-    look-around-requires
-    enum-told
-    enum-known-sum
-    same-length
+    giver-number-requires
     returns-3
     settle-requires
     walk-requires
-    same-length-2
-    returns-4
-    same-length-3
-    returns-5)
+    same-length
+    returns-4)

@@ -1,33 +1,26 @@
--- `sheet::compass::is_code` meets its contract: what `way_of` answered tells it.
+-- `sheet::compass::is_code` meets its contract: the cases of `isCode`.
 -- Assumes nothing.
 use mathlib.Core.Path.{sym, _∙_}
-use Rattle.sheet.proofs.Way.{way-arrow, way-absent, way-bad, arrow-is-code, absent-is-code, bad-is-none}
+use borrow.Author.Tests.{eq-eqb, ne-eqb}
+use Rattle.sheet.specs.Compass.{isAbsent, isCode}
 use borrow.Author.Needs.{needs}
 use Rattle.sheet.proofs.compass.is_code.Statement.{statement}
 use Rattle.sheet.proofs.compass.is_code.Tie as tie
 
-way-of-requires : tie.Need-way-of-requires
-way-of-requires c κs = search needs
-
-enum-told : tie.Need-enum-told
-enum-told c = search needs
-
-enum-told-2 : tie.Need-enum-told-2
-enum-told-2 c = search needs
-
-enum-told-3 : tie.Need-enum-told-3
-enum-told-3 c = search needs
+is-arrow-requires : tie.Need-is-arrow-requires
+is-arrow-requires c κs = search needs
 
 returns : tie.Need-returns
-returns c = sym (arrow-is-code _ (way-arrow _ (sym (c .before .before .way-of .ensures) ∙ c .enum-told .given .1) .0))
+unfolding isCode
+returns c = rw (sym (c .before .is-arrow .ensures) ∙ c .if1 .taken)
 
 returns-2 : tie.Need-returns-2
-returns-2 c = let a = way-absent _ (sym (c .before .before .way-of .ensures) ∙ c .enum-told2 .given .1) in sym (absent-is-code _ (a .0) (a .1))
+unfolding isCode isAbsent
+returns-2 c = rw (sym (c .before .before .is-arrow .ensures) ∙ c .before .if1 .left, eq-eqb _ 0 (c .if2 .taken))
 
 returns-3 : tie.Need-returns-3
-returns-3 c = let a = way-bad _ (sym (c .before .before .way-of .ensures) ∙ c .enum-told3 .given .1) in sym (bad-is-none _ (a .0) (a .1))
+unfolding isCode isAbsent
+returns-3 c = rw (sym (c .before .before .is-arrow .ensures) ∙ c .before .if1 .left, ne-eqb _ 0 (c .if2 .left))
 
 pub is-code-spec : {M : Type 1} → statement M
-is-code-spec =
-    tie.close
-    (tie.spec way-of-requires enum-told enum-told-2 enum-told-3 returns returns-2 returns-3)
+is-code-spec = tie.close (tie.spec is-arrow-requires returns returns-2 returns-3)
