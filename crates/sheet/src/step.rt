@@ -79,25 +79,6 @@ pub fn beside(rows: usize, cols: usize, r: usize, c: usize, code: u8) -> usize
     s.row * cols + s.col
 }
 
-// The spot one step of a code from row r and column c. Each arm has its code written out, so that no table is looked into as it runs.
-fn stepped(rows: usize, cols: usize, r: usize, c: usize, code: u8) -> Spot
-    requires { ⌜ Cell rows cols r c ⌝ }
-    requires { ⌜ isArrow code ≡ true ⌝ }
-    ensures { λ s. ⌜ SpotOf rows cols s (stepFrom rows cols (stepOf code) (r * cols + c)) ⌝ }
-{
-    match code {
-        1 => spot_beside(rows, cols, r, c, 1),
-        2 => spot_beside(rows, cols, r, c, 2),
-        4 => spot_beside(rows, cols, r, c, 4),
-        8 => spot_beside(rows, cols, r, c, 8),
-        16 => spot_beside(rows, cols, r, c, 16),
-        32 => spot_beside(rows, cols, r, c, 32),
-        64 => spot_beside(rows, cols, r, c, 64),
-        128 => spot_beside(rows, cols, r, c, 128),
-        _ => Spot { row: rows, col: 0 },
-    }
-}
-
 // The spot of the land cell that the arrow at row r and column c steps onto, or (rows, 0). Nothing is divided.
 pub fn dest_at(rows: usize, cols: usize, grid: &[u8], r: usize, c: usize) -> Spot
     requires { ⌜ Cell rows cols r c ⌝ }
@@ -106,7 +87,7 @@ pub fn dest_at(rows: usize, cols: usize, grid: &[u8], r: usize, c: usize) -> Spo
 {
     let code = grid[r * cols + c];
     if is_arrow(code) {
-        let s = stepped(rows, cols, r, c, code);
+        let s = spot_beside(rows, cols, r, c, code);
         let row = s.row;
         let col = s.col;
         if row < rows {
