@@ -10,3 +10,4 @@ pub mod Inner
 pub mod Weigh
 pub mod Gather
 pub mod Passes
+pub mod Given

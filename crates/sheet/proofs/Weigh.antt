@@ -94,7 +94,7 @@ module _ (rows cols : ℕ) (g counts : List ℕ) (p : ℕ) where
 
   module _ (at-p : Place rows cols p) (long : length g ≡ rows * cols) (land : landAt g p ≡ true) (low : (q : ℕ) → countAt counts q < 4294967296) where
     -- the sum of eight counts is below the large number
-    given-small : given (rows * cols) (destOf rows cols g) (countAt counts) p < 1099511627776
+    pub given-small : given (rows * cols) (destOf rows cols g) (countAt counts) p < 1099511627776
     unfolding term
     given-small =
         let m : sum 8 (term rows cols g (countAt counts) p) ≤ sum 8 (λ j. 4294967295) =

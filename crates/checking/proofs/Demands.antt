@@ -1,0 +1,52 @@
+-- What checking promises, in the paper's words.
+-- Assumes nothing.
+use mathlib.Core.Bool.{false}
+use mathlib.Core.List.{List, []}
+use mathlib.Core.Logic.{_↔_}
+use mathlib.Core.Path.{_≡_, refl, sym, _∙_}
+use Prim.Native.Nat.{ℕ, _*_, _<_}
+use native.Mathlib.Omega.{arith}
+use Rattle.flow.proofs.Sum.{on-false}
+use Rattle.promise.specs.Links.Unless.{met}
+use Rattle.promise.specs.Links.UnlessAll.{met-all}
+use Rattle.promise.specs.Reply.{Reply}
+use Rattle.promise.specs.Reply.Reply.{reply}
+use Rattle.promise.proofs.Apart.{number-same, unless-met, unless-all-met}
+use Rattle.sheet.specs.Shape.{SheetShape}
+use Rattle.sheet.specs.Sheet.{CodeOk, SheetLengths, SheetCounts, SheetNoLoop, landAt, countAt}
+use Rattle.sheet.proofs.Given.{given-absent}
+use Rattle.sheet.proofs.Passes.{counts-no-loop}
+use Rattle.checking.specs.Check.{CheckPromise, CountOk}
+use Rattle.checking.proofs.One.{check-one}
+
+-- shape, lengths and codes are right, and the counts are those of equation 1
+pub record Right (rows cols : ℕ) (grid counts : List ℕ) : Type 0 where
+  pub shape : SheetShape rows cols
+  pub lengths : SheetLengths rows cols grid counts
+  pub codes : (p : ℕ) → p < rows * cols → CodeOk grid p
+  pub equation : SheetCounts rows cols grid counts
+
+-- an absent cell must hold 0
+pub absent-must-be-0 : (rows cols : ℕ) (grid counts : List ℕ) (p : ℕ) → p < rows * cols → landAt grid p ≡ false → CountOk rows cols grid counts p ↔ (countAt counts p ≡ 0)
+absent-must-be-0 rows cols grid counts p l t =
+    (λ e. omega (arith, e, on-false 1 t, given-absent rows cols grid (countAt counts) p l t), λ e. omega (arith, e, on-false 1 t, given-absent rows cols grid (countAt counts) p l t))
+
+module _ (rows cols : ℕ) (grid counts : List ℕ) (said : Reply) (promise : CheckPromise rows cols grid counts said) where
+  done-right : said ≡ reply 0 [] → Right rows cols grid counts
+  done-right done =
+      let (a, r1) = unless-met promise (λ e. omega (arith, number-same (sym done ∙ e))) in
+      let (b, r2) = unless-met r1 (λ e. omega (arith, number-same (sym done ∙ e))) in
+      let (c, r3) = unless-all-met r2 (λ p e. omega (arith, number-same (sym done ∙ e))) in
+      let (d, r4) = unless-all-met r3 (λ p e. omega (arith, number-same (sym done ∙ e))) in
+      record { shape = a; lengths = b; codes = c; equation = d }
+
+  -- DONE IS SAID EXACTLY WHEN shape, lengths and codes are right and the counts satisfy equation 1
+  pub check-done-iff : (said ≡ reply 0 []) ↔ Right rows cols grid counts
+  check-done-iff = (
+    done-right,
+    λ s. check-one rows cols grid counts _ _ promise (met (s .shape) (met (s .lengths) (met-all (s .codes) (met-all (s .equation) refl)))),
+  )
+
+  -- A CHECKED SHEET HAS NO LOOP
+  pub checked-no-loop : said ≡ reply 0 [] → SheetNoLoop rows cols grid
+  checked-no-loop done = let s = done-right done in counts-no-loop rows cols grid (s .lengths .grid-long) counts (s .equation)

@@ -1,0 +1,12 @@
+-- What the private test of one cell promises. Nothing here is cited by the public promise.
+-- Assumes nothing.
+use mathlib.Core.Bool.{Bool}
+use mathlib.Core.List.{List}
+use Prim.Native.Nat.{ℕ, _+_, _*_}
+use lib.Dec.{eqb}
+use Rattle.flow.specs.Net.{given}
+use Rattle.sheet.specs.Sheet.{destOf, unit, countAt}
+
+-- a test of equation 1 at place p
+unfoldable pub rightAt : ℕ → ℕ → List ℕ → List ℕ → ℕ → Bool
+rightAt rows cols grid counts p = eqb (countAt counts p) (unit grid p + given (rows * cols) (destOf rows cols grid) (countAt counts) p)
