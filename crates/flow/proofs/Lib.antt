@@ -18,6 +18,7 @@ pub mod Mend
 pub mod Alike
 pub mod Without
 pub mod Close
+pub mod Follow
 pub mod Cut
 pub mod MendBound
 pub mod Lists

@@ -9,6 +9,7 @@ use borrow.Author.Tests.{eqb-true, eq-eqb}
 use Rattle.flow.specs.Net.{on, given, Counts}
 use Rattle.flow.proofs.Sum.{test-iff, same, on-eq, on-ne, sum-none, sum-change}
 use Rattle.flow.proofs.Count.{given-still}
+use Rattle.flow.proofs.Bound.{on-le}
 use Rattle.flow.proofs.Mend.{Off}
 use Rattle.flow.proofs.Alike.{Alike}
 
@@ -80,3 +81,14 @@ module _ (n t : ℕ) (to w to' w' c d : ℕ → ℕ) (lt : t < n) (s : Without n
   -- where t gives to none, these are the counts with t
   pub put-in-end : n ≤ to t → Counts n to w d
   put-in-end h p l = put p l (λ e. omega arith)
+
+-- t to be put in: the counts without t are off at t alone, by what t is to hold
+module _ (n t : ℕ) (to w to' w' c : ℕ → ℕ) (lt : t < n) (s : Without n t to w to' w') (counts : Counts n to' w' c) where
+  holds-none : c t ≡ 0
+  holds-none = omega (arith, counts t lt, s .bare, given-alone n t to w to' w' c c lt s (λ q l e. refl))
+
+  pub put-off : Off n to w c t (w t + given n to c t) 0
+  put-off = record {
+    rest = λ p l h. omega (arith, holds-none, counts p l, s .weights p l h, given-without n t to w to' w' c c lt s (λ q l e. refl) p l h, on-le (eqb (to t) p) (c t));
+    at = omega (arith, holds-none);
+  }

@@ -11,3 +11,4 @@ pub mod Weigh
 pub mod Gather
 pub mod Passes
 pub mod Given
+pub mod Change
