@@ -1,3 +1,4 @@
 pub mod Owes
 pub mod Following
 pub mod Moves
+pub mod Answers

@@ -7,7 +7,7 @@ use mathlib.Core.Path.{_≡_, refl, sym, ap, _∙_}
 use Prim.Native.Nat.{ℕ, _+_, _*_, _<_, _≤_}
 use native.Mathlib.Omega.{arith}
 use lib.ListN.{length, getD, set, length-set}
-use lib.Seq.{getD-set-same, getD-set-other, set-set}
+use lib.Seq.{getD-set-same, getD-set-other, set-set, set-getD}
 use Rattle.flow.specs.Net.{steps, given}
 use Rattle.flow.proofs.Bound.{counts-bound}
 use Rattle.flow.proofs.Close.{without-free}
@@ -31,16 +31,33 @@ taken-free rows cols g t long lt free =
     without-free (rows * cols) t (destOf rows cols g) (unit g) (destOf rows cols (set g t 255)) (unit (set g t 255))
     (dest-beyond rows cols g long) (dest-beyond rows cols (set g t 255) (changed-long rows cols g t 255 lt long)) lt (sheet-without rows cols g t lt long) free
 
+-- ---- the look ahead: the new code is stored, and then the old one again
+
+module _ (rows cols : ℕ) (g : List ℕ) (t x : ℕ) (laid : Laid rows cols g g) (lt : t < rows * cols) where
+  pub ahead-laid : Laid rows cols (set g t x) (set g t x)
+  ahead-laid = record {
+    rows-fit = laid .rows-fit;
+    cols-fit = laid .cols-fit;
+    grid-long = changed-long rows cols g t x lt (laid .grid-long);
+    counts-long = changed-long rows cols g t x lt (laid .grid-long);
+  }
+
+  pub ahead-free : SheetNoLoop rows cols g → SheetNoLoop rows cols (set (set g t x) t 255)
+  ahead-free free = rw (set-set g t x 255) (taken-free rows cols g t (laid .grid-long) lt free)
+
+pub as-lent : (g : List ℕ) (t x : ℕ) → set (set g t x) t (getD g t 0) ≡ g
+as-lent g t x = set-set g t x (getD g t 0) ∙ set-getD g t 0
+
 -- ---- t taken out: the grid has no t, 0 is stored at t, and the cell that its water went to has t's count too much
 
 module _ (rows cols : ℕ) (g c : List ℕ) (t : ℕ) (laid : Laid rows cols g c) (lt : t < rows * cols) (counts : SheetCounts rows cols g c) where
-  free : SheetNoLoop rows cols g
-  free = counts-no-loop rows cols g (laid .grid-long) c counts
+  pub lent-free : SheetNoLoop rows cols g
+  lent-free = counts-no-loop rows cols g (laid .grid-long) c counts
 
   pub taken-small : getD c t 0 ≤ rows * cols
   taken-small = omega (
     arith,
-    counts-bound (rows * cols) (destOf rows cols g) (dest-beyond rows cols g (laid .grid-long)) free (unit g) (countAt c) counts t lt,
+    counts-bound (rows * cols) (destOf rows cols g) (dest-beyond rows cols g (laid .grid-long)) lent-free (unit g) (countAt c) counts t lt,
     number-le (rows * cols) (landAt g),
   )
 
@@ -52,7 +69,7 @@ module _ (rows cols : ℕ) (g c : List ℕ) (t : ℕ) (laid : Laid rows cols g c
 
   moves : destOf rows cols g t ≡ t → ⊥
   unfolding steps
-  moves e = free t lt (0, e)
+  moves e = lent-free t lt (0, e)
 
   pub taken-owes : {u : ℕ} → u ≡ destOf rows cols g t → Owing rows cols (set g t 255) (set c t 0) u 0 (getD c t 0)
   taken-owes {u} e = record {
@@ -97,12 +114,13 @@ module _ (rows cols : ℕ) (g c : List ℕ) (t x : ℕ) (laid : Laid rows cols g
   pub put-laid : Laid rows cols (set g t x) c
   put-laid = record { rows-fit = laid .rows-fit; cols-fit = laid .cols-fit; grid-long = long; counts-long = laid .counts-long }
 
-  module _ (arrow : isArrow x ≡ true) {s : ℕ} (sum : s ≡ given (rows * cols) (destOf rows cols (set g t x)) (countAt c) t) where
+  module _ (arrow : isArrow x ≡ true) where
     pub put-land : landAt (set g t x) t ≡ true
     put-land = changed-land rows cols g t x lt (laid .grid-long) ∙ arrow
 
+  module _ (arrow : isArrow x ≡ true) {s : ℕ} (sum : s ≡ given (rows * cols) (destOf rows cols (set g t x)) (countAt c) t) where
     own : unit (set g t x) t + given (rows * cols) (destOf rows cols (set g t x)) (countAt c) t ≡ s + 1
-    own = omega (arith, on-true 1 put-land)
+    own = omega (arith, on-true 1 (put-land arrow))
 
     -- a land cell is to hold 1 and what its givers hold
     pub put-owes : Owing rows cols (set g t x) c t (s + 1) 0

@@ -1,9 +1,9 @@
+-- `mend::method::look_ahead` meets its contract: the old code is stored again.
+-- Assumes nothing.
+use Rattle.mend.proofs.Moves.{ahead-laid, ahead-free, as-lent}
 use borrow.Author.Needs.{needs}
 use Rattle.mend.proofs.method.look_ahead.Statement.{statement}
 use Rattle.mend.proofs.method.look_ahead.Tie as tie
-use Rattle.mend.proofs.method.look_ahead.Reads as reads
-use Rattle.mend.proofs.method.look_ahead.Lts as lts
-use Rattle.mend.proofs.method.follow.Reads as follow-reads
 
 slice-read-old : tie.Need-slice-read-old
 slice-read-old c = search needs
@@ -12,7 +12,10 @@ slice-write-grid : tie.Need-slice-write-grid
 slice-write-grid c = search needs
 
 follow-requires : tie.Need-follow-requires
-follow-requires c κs = search needs
+follow-requires c κs =
+    let s = c .before .before .before in
+    let a = s .args in
+    (ahead-laid (a .rows) (a .cols) (a .grid .now) (a .place) (a .code) (s .pre .0) (s .pre .1 .0), (s .pre .1 .0, ahead-free (a .rows) (a .cols) (a .grid .now) (a .place) (a .code) (s .pre .0) (s .pre .1 .0) (s .pre .1 .1)))
 
 slice-write-grid-2 : tie.Need-slice-write-grid-2
 slice-write-grid-2 c = search needs
@@ -21,7 +24,7 @@ same-length : tie.Need-same-length
 same-length c = search needs
 
 returns : tie.Need-returns
-returns c = search needs
+returns c = let a = c .before .before .before .before .args in (c .follow .ensures, as-lent (a .grid .now) (a .place) (a .code))
 
 pub look-ahead-spec : {M : Type 1} → statement M
 look-ahead-spec =

@@ -1,11 +1,13 @@
+-- `mend::method::put_in` meets its contract: an absent cell adds nothing, a land cell owes 1 and what its givers hold.
+-- Assumes nothing.
+use mathlib.Core.Path.{refl, sym, _∙_}
+use native.Mathlib.Omega.{arith}
+use borrow.Author.Tests.{not-true, not-false}
+use Rattle.sheet.proofs.Places.{laid-area, place-of}
+use Rattle.mend.proofs.Moves.{put-absent, put-laid, put-land, put-owes, put-small}
 use borrow.Author.Needs.{needs}
 use Rattle.mend.proofs.method.put_in.Statement.{statement}
 use Rattle.mend.proofs.method.put_in.Tie as tie
-use Rattle.mend.proofs.method.put_in.Reads as reads
-use Rattle.mend.proofs.method.put_in.Lts as lts
-use Rattle.mend.proofs.method.carry.Reads as carry-reads
-use Rattle.sheet.proofs.around.givers_sum.Reads as givers-sum-reads
-use Rattle.sheet.proofs.compass.is_arrow.Reads as is-arrow-reads
 
 slice-write-grid : tie.Need-slice-write-grid
 slice-write-grid c = search needs
@@ -17,19 +19,39 @@ same-length : tie.Need-same-length
 same-length c = search needs
 
 returns : tie.Need-returns
-returns c = search needs
+returns c =
+    let s = c .before .before .before .before in
+    let a = s .args in
+    (refl, put-absent (a .rows) (a .cols) (a .grid .now) (a .counts .now) (a .place) (a .code) (s .pre .0) (s .pre .1 .0) (s .pre .1 .1 .0) (sym (c .before .is-arrow .ensures) ∙ not-true _ (c .if1 .taken)))
 
 givers-sum-requires : tie.Need-givers-sum-requires
-givers-sum-requires c κs = search needs
+givers-sum-requires c κs =
+    let s = c .before .before .before .before .before .before in
+    let a = s .args in
+    let arrow = sym (c .before .before .before .is-arrow .ensures) ∙ not-false _ (c .before .before .if1 .left) in
+    let laid = put-laid (a .rows) (a .cols) (a .grid .now) (a .counts .now) (a .place) (a .code) (s .pre .0) (s .pre .1 .0) (s .pre .1 .1 .0) in
+    (place-of laid (s .pre .1 .0), ((laid .grid-long, laid .counts-long), put-land (a .rows) (a .cols) (a .grid .now) (a .counts .now) (a .place) (a .code) (s .pre .0) (s .pre .1 .0) (s .pre .1 .1 .0) arrow))
 
 add-own : tie.Need-add-own
-add-own c = search needs
+add-own c =
+    let s = c .before .before .before .before .before .before .before in
+    let a = s .args in
+    let arrow = sym (c .before .before .before .before .is-arrow .ensures) ∙ not-false _ (c .before .before .before .if1 .left) in
+    record { fits = omega (arith, laid-area (s .pre .0), put-small (a .rows) (a .cols) (a .grid .now) (a .counts .now) (a .place) (a .code) (s .pre .0) (s .pre .1 .0) (s .pre .1 .1 .0) arrow (c .givers-sum .ensures) (s .pre .1 .1 .1)) }
 
 cast-carry : tie.Need-cast-carry
-cast-carry c = search needs
+cast-carry c =
+    let s = c .before .before .before .before .before .before .before .before .before in
+    let a = s .args in
+    let arrow = sym (c .before .before .before .before .before .before .is-arrow .ensures) ∙ not-false _ (c .before .before .before .before .before .if1 .left) in
+    record { fits = omega (arith, laid-area (s .pre .0), put-small (a .rows) (a .cols) (a .grid .now) (a .counts .now) (a .place) (a .code) (s .pre .0) (s .pre .1 .0) (s .pre .1 .1 .0) arrow (c .before .before .givers-sum .ensures) (s .pre .1 .1 .1)) }
 
 carry-requires : tie.Need-carry-requires
-carry-requires c κs = search needs
+carry-requires c κs =
+    let s = c .before .before .before .before .before .before .before .before .before in
+    let a = s .args in
+    let arrow = sym (c .before .before .before .before .before .before .is-arrow .ensures) ∙ not-false _ (c .before .before .before .before .before .if1 .left) in
+    (put-laid (a .rows) (a .cols) (a .grid .now) (a .counts .now) (a .place) (a .code) (s .pre .0) (s .pre .1 .0) (s .pre .1 .1 .0), (s .pre .1 .1 .1, (put-owes (a .rows) (a .cols) (a .grid .now) (a .counts .now) (a .place) (a .code) (s .pre .0) (s .pre .1 .0) (s .pre .1 .1 .0) arrow (c .before .before .givers-sum .ensures), omega arith)))
 
 same-length-2 : tie.Need-same-length-2
 same-length-2 c = search needs

@@ -1,10 +1,9 @@
+-- `mend::method::take_out` meets its contract: what was downstream owes the count that is taken out.
+-- Assumes nothing.
+use Rattle.mend.proofs.Moves.{lent-free, taken-free, taken-laid, taken-owes, taken-small}
 use borrow.Author.Needs.{needs}
 use Rattle.mend.proofs.method.take_out.Statement.{statement}
 use Rattle.mend.proofs.method.take_out.Tie as tie
-use Rattle.mend.proofs.method.take_out.Reads as reads
-use Rattle.mend.proofs.method.take_out.Lts as lts
-use Rattle.mend.proofs.method.carry.Reads as carry-reads
-use Rattle.sheet.proofs.step.dest.Reads as dest-reads
 
 dest-requires : tie.Need-dest-requires
 dest-requires c κs = search needs
@@ -25,7 +24,18 @@ slice-write-counts : tie.Need-slice-write-counts
 slice-write-counts c = search needs
 
 carry-requires : tie.Need-carry-requires
-carry-requires c κs = search needs
+carry-requires c κs =
+    let s = c .before .before .before .before .before .before .before in
+    let a = s .args in (
+      taken-laid (a .rows) (a .cols) (a .grid .now) (a .counts .now) (a .place) (s .pre .0) (s .pre .1 .0) (s .pre .1 .1),
+      (
+        taken-free (a .rows) (a .cols) (a .grid .now) (a .place) (s .pre .0 .grid-long) (s .pre .1 .0) (lent-free (a .rows) (a .cols) (a .grid .now) (a .counts .now) (a .place) (s .pre .0) (s .pre .1 .0) (s .pre .1 .1)),
+        (
+          taken-owes (a .rows) (a .cols) (a .grid .now) (a .counts .now) (a .place) (s .pre .0) (s .pre .1 .0) (s .pre .1 .1) (c .before .before .before .dest .ensures),
+          taken-small (a .rows) (a .cols) (a .grid .now) (a .counts .now) (a .place) (s .pre .0) (s .pre .1 .0) (s .pre .1 .1),
+        ),
+      ),
+    )
 
 same-length : tie.Need-same-length
 same-length c = search needs
