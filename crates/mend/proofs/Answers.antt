@@ -4,8 +4,8 @@ use mathlib.Core.List.{List, [], _∷_}
 use mathlib.Core.Path.{_≡_, refl, sym, ap, _∙_}
 use Prim.Native.Nat.{ℕ, _*_, _<_}
 use native.Mathlib.Omega.{arith}
-use lib.ListN.{length, set}
-use lib.Seq.{set-set}
+use lib.ListN.{length, getD, set}
+use lib.Seq.{set-set, set-getD}
 use Rattle.promise.specs.Links.Unless.{refused, met}
 use Rattle.promise.specs.Links.UnlessAll.{refused-at, met-all}
 use Rattle.promise.specs.Links.UnlessSome.{refused-with, met-none}
@@ -15,6 +15,7 @@ use Rattle.flow.proofs.Loop.{first-loop-free}
 use Rattle.sheet.specs.Leaves.{Laid}
 use Rattle.sheet.specs.Sheet.{SheetCounts, SheetNoLoop, SheetLoop}
 use Rattle.sheet.proofs.Change.{changed-long}
+use Rattle.sheet.proofs.Passes.{counts-no-loop}
 use Rattle.checking.specs.Check.{CheckPromise}
 use Rattle.checking.proofs.Demands.{Right, check-done-iff}
 use Rattle.mend.specs.Mend.{MendPromise, MendCell, Changed, MendEnd, ends}
@@ -47,6 +48,17 @@ module _ (rows cols : ℕ) (g c : List ℕ) (t x : ℕ) where
 
     pub checked-counts : SheetCounts rows cols g c
     checked-counts = checked .equation
+
+  -- the code is already there: nothing is to be done
+  pub answers-same : Laid rows cols g c → SheetCounts rows cols g c → getD g t 0 ≡ x → Changed rows cols g c t x (ends (reply 0 []) g c)
+  answers-same laid eq there =
+      let stays : set g t x ≡ g = ap (λ (y : ℕ). set g t y) (sym there) ∙ set-getD g t 0 in
+      met-none (λ v first. first-loop-free (counts-no-loop rows cols g (laid .grid-long) c eq) (rw stays at first)) record {
+        stored = sym stays;
+        long = laid .counts-long;
+        equation = rw stays eq;
+        said-is = refl;
+      }
 
   -- the new code would close a loop
   pub answers-loop : {h : List ℕ} {p len : ℕ} → SheetLoop rows cols (set g t x) p len → h ≡ g → Changed rows cols g c t x (ends (reply 4 (p ∷ len ∷ [])) h c)

@@ -24,10 +24,7 @@ pub enum MendReply {
     Count(usize),
     Place,
     NewCode,
-    Loop {
-        place: usize,
-        length: usize,
-    },
+    Loop { place: usize, length: usize },
 }
 
 // Stores the new code of one cell and mends the counts, or refuses and leaves both as they were lent.
@@ -87,6 +84,9 @@ fn change(
     requires { ⌜ place < rows * cols ⌝ }
     ensures { λ r. ⌜ Changed rows cols (now (grid .entry)) (now (counts .entry)) place code (ends (mendReply r) (now (grid .exit)) (now (counts .exit))) ⌝ }
 {
+    if grid[place] == code {
+        return MendReply::Done;
+    }
     match look_ahead(rows, cols, grid, place, code) {
         Followed::Round { first, length } => MendReply::Loop {
             place: first,

@@ -14,10 +14,7 @@ use sheet::step::dest;
 // it comes by, and `length` the number of cells.
 pub enum Followed {
     Out,
-    Round {
-        first: usize,
-        length: usize,
-    },
+    Round { first: usize, length: usize },
 }
 
 // The smaller of two places.
@@ -54,15 +51,15 @@ fn follow(rows: usize, cols: usize, grid: &[u8], start: usize) -> Followed
 }
 
 // Where the water of `place` would go with the new code. The grid is left as it was.
-pub fn look_ahead(rows: usize, cols: usize, grid: &mut [u8], place: usize, code: u8) -> Followed
+pub fn look_ahead(rows: usize, cols: usize, grid: &mut [u8], place: usize, new: u8) -> Followed
     requires { ⌜ Laid rows cols (now grid) (now grid) ⌝ }
     requires { ⌜ place < rows * cols ⌝ }
     requires { ⌜ SheetNoLoop rows cols (now grid) ⌝ }
-    ensures { λ r. ⌜ Follows rows cols (set (now (grid .entry)) place code) r ⌝ }
+    ensures { λ r. ⌜ Follows rows cols (set (now (grid .entry)) place new) r ⌝ }
     ensures { λ _. ⌜ now (grid .exit) ≡ now (grid .entry) ⌝ }
 {
     let old = grid[place];
-    grid[place] = code;
+    grid[place] = new;
     let found = follow(rows, cols, grid, place);
     grid[place] = old;
     found
@@ -108,14 +105,7 @@ pub fn take_out(rows: usize, cols: usize, grid: &mut [u8], counts: &mut [u32], p
 }
 
 // Puts a cell in: stores its code, and where that is an arrow adds 1 and the counts of its givers at it and at each cell down its way.
-pub fn put_in(
-    rows: usize,
-    cols: usize,
-    grid: &mut [u8],
-    counts: &mut [u32],
-    place: usize,
-    code: u8,
-)
+pub fn put_in(rows: usize, cols: usize, grid: &mut [u8], counts: &mut [u32], place: usize, code: u8)
     requires { ⌜ Laid rows cols (now grid) (now counts) ⌝ }
     requires { ⌜ place < rows * cols ⌝ }
     requires { ⌜ SheetCounts rows cols (set (now grid) place 255) (now counts) ⌝ }

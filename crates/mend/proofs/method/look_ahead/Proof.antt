@@ -15,7 +15,7 @@ follow-requires : tie.Need-follow-requires
 follow-requires c κs =
     let s = c .before .before .before in
     let a = s .args in
-    (ahead-laid (a .rows) (a .cols) (a .grid .now) (a .place) (a .code) (s .pre .0) (s .pre .1 .0), (s .pre .1 .0, ahead-free (a .rows) (a .cols) (a .grid .now) (a .place) (a .code) (s .pre .0) (s .pre .1 .0) (s .pre .1 .1)))
+    (ahead-laid (a .rows) (a .cols) (a .grid .now) (a .place) (a .new) (s .pre .0) (s .pre .1 .0), (s .pre .1 .0, ahead-free (a .rows) (a .cols) (a .grid .now) (a .place) (a .new) (s .pre .0) (s .pre .1 .0) (s .pre .1 .1)))
 
 slice-write-grid-2 : tie.Need-slice-write-grid-2
 slice-write-grid-2 c = search needs
@@ -24,7 +24,7 @@ same-length : tie.Need-same-length
 same-length c = search needs
 
 returns : tie.Need-returns
-returns c = let a = c .before .before .before .before .args in (c .follow .ensures, as-lent (a .grid .now) (a .place) (a .code))
+returns c = let a = c .before .before .before .before .args in (c .follow .ensures, as-lent (a .grid .now) (a .place) (a .new))
 
 pub look-ahead-spec : {M : Type 1} → statement M
 look-ahead-spec =

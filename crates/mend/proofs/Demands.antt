@@ -1,0 +1,161 @@
+-- What mending promises, in the words of the demand.
+-- Assumes nothing.
+use mathlib.Core.Bool.{true, false}
+use mathlib.Core.List.{List, [], _∷_}
+use mathlib.Core.Logic.{inl, inr, _↔_}
+use mathlib.Core.Path.{_≡_, refl, sym, ap, _∙_}
+use Prim.Native.Nat.{ℕ, _*_, _<_}
+use native.Mathlib.Omega.{arith}
+use lib.ListN.{length, set, length-set}
+use lib.Seq.{set-getD}
+use Rattle.promise.specs.Links.{Unless, UnlessAll, UnlessSome}
+use Rattle.promise.specs.Links.Unless.{refused, met}
+use Rattle.promise.specs.Links.UnlessAll.{refused-at, met-all}
+use Rattle.promise.specs.Links.UnlessSome.{refused-with, met-none}
+use Rattle.promise.specs.Reply.{Reply, numberOf}
+use Rattle.promise.specs.Reply.Reply.{reply}
+use Rattle.promise.proofs.Apart.{unless-met, unless-all-met, unless-some-met, unless-ok, unless-all-ok}
+use Rattle.flow.specs.Net.{downb}
+use Rattle.flow.proofs.Alike.{differs-only}
+use Rattle.flow.proofs.Loop.{loop-or-free, first-loop-free}
+use Rattle.flow.proofs.Sum.{test}
+use Rattle.flow.proofs.Walk.{downb-iff}
+use Rattle.sheet.specs.Compass.{isCode}
+use Rattle.sheet.specs.Sheet.{codeAt, destOf, unit, countAt, Downstream, SheetCounts, SheetNoLoop, SheetOnLoop}
+use Rattle.sheet.proofs.Change.{changed-alike, changed-unit, changed-code}
+use Rattle.sheet.proofs.Dest.{dest-beyond}
+use Rattle.sheet.proofs.Passes.{counts-no-loop}
+use Rattle.checking.proofs.Demands.{Right}
+use Rattle.mend.specs.Mend.{MendPromise, MendCell, MendEnd, Changed, Mended, changed, ends}
+use Rattle.mend.proofs.One.{mend-one, counts-one}
+
+-- none of 1, 2, 3, 5, 6 and 7 applies
+pub record Mendable (rows cols : ℕ) (grid counts : List ℕ) (place code : ℕ) : Type 0 where
+  pub right : Right rows cols grid counts
+  pub inside : place < rows * cols
+  pub code-ok : isCode code ≡ true
+
+module _ (rows cols : ℕ) (grid counts : List ℕ) (place code : ℕ) where
+  mendable-long : Mendable rows cols grid counts place code → length (changed grid place code) ≡ rows * cols
+  mendable-long m = simp length-set (m .right .lengths .grid-long)
+
+  -- the chain put together again
+  promised : {e : MendEnd} → Mendable rows cols grid counts place code → Changed rows cols grid counts place code e → MendPromise rows cols grid counts place code e
+  promised m rest = met (m .right .shape) (met (m .right .lengths) (met-all (m .right .codes) (met-all (m .right .equation) (met (m .inside) (met (m .code-ok) rest)))))
+
+  module _ (e : MendEnd) (promise : MendPromise rows cols grid counts place code e) where
+    changes : Mendable rows cols grid counts place code → Changed rows cols grid counts place code e
+    changes m =
+        unless-ok (unless-ok (unless-all-ok (unless-all-ok (unless-ok (unless-ok promise (m .right .shape)) (m .right .lengths)) (m .right .codes)) (m .right .equation)) (m .inside)) (m .code-ok)
+
+    not-said : numberOf (e .said) ≡ 0 → {n : ℕ} → (n ≡ 0 → ⊥) → {f : MendEnd} → numberOf (f .said) ≡ n → e ≡ f → ⊥
+    not-said z h k d = h (sym k ∙ ap (λ (y : MendEnd). numberOf (y .said)) (sym d) ∙ z)
+
+    passed : numberOf (e .said) ≡ 0 → Mendable rows cols grid counts place code × Mended rows cols grid place code e
+    passed z =
+        let (a, r1) = unless-met promise (not-said z {n = 1} (λ k. omega arith) refl) in
+        let (b, r2) = unless-met r1 (not-said z {n = 2} (λ k. omega arith) refl) in
+        let (c, r3) = unless-all-met r2 (λ p. not-said z {n = 3} (λ k. omega arith) refl) in
+        let (d, r4) = unless-all-met r3 (λ p. not-said z {n = 5} (λ k. omega arith) refl) in
+        let (f, r5) = unless-met r4 (not-said z {n = 6} (λ k. omega arith) refl) in
+        let (g, r6) = unless-met r5 (not-said z {n = 7} (λ k. omega arith) refl) in
+        let (h, r7) = unless-some-met r6 (λ v. not-said z {n = 4} (λ k. omega arith) refl) in
+        (record { right = record { shape = a; lengths = b; codes = c; equation = d }; inside = f; code-ok = g }, r7)
+
+    -- ---- done
+
+    -- done is said exactly when the lent sheet is right, place and code are right, and the changed grid has no loop
+    pub mend-done-iff : (numberOf (e .said) ≡ 0) ↔ (Mendable rows cols grid counts place code × SheetNoLoop rows cols (changed grid place code))
+    mend-done-iff = (
+      λ z. let (m, s) = passed z in (m, counts-no-loop rows cols (changed grid place code) (mendable-long m) (e .counts) (s .equation)),
+      λ (m, free). elim (changes m) [
+        | refused-with v a d ↦ absurd (first-loop-free free a)
+        | met-none n s ↦ ap numberOf (s .said-is)
+      ],
+    )
+
+    module _ (done : numberOf (e .said) ≡ 0) where
+      -- THE GRID HOLDS THE NEW CODE at the place, and elsewhere what it held
+      pub mended-grid : e .grid ≡ changed grid place code
+      mended-grid = passed done .1 .stored
+
+      pub mended-code : codeAt (e .grid) place ≡ code
+      mended-code =
+          let (m, s) = passed done in
+          ap (λ (g : List ℕ). codeAt g place) (s .stored) ∙ changed-code rows cols grid place code (m .inside) (m .right .lengths .grid-long)
+
+      -- THE MENDED COUNTS EQUAL THOSE OF THE CHANGED GRID COUNTED AFRESH: whatever satisfies equation 1 on the changed grid
+      pub mended-afresh : (fresh : List ℕ) → length fresh ≡ rows * cols → SheetCounts rows cols (changed grid place code) fresh → e .counts ≡ fresh
+      mended-afresh fresh long eq =
+          let (m, s) = passed done in
+          counts-one rows cols (changed grid place code) (e .counts) fresh (mendable-long m) (s .long) long (s .equation) eq
+
+      -- NO COUNT DIFFERS except at that cell and at cells downstream of it, before the change or after
+      pub mended-only : (p : ℕ) → p < rows * cols → (p ≡ place → ⊥) → (Downstream rows cols grid place p → ⊥) → (Downstream rows cols (changed grid place code) place p → ⊥)
+          → countAt (e .counts) p ≡ countAt counts p
+      mended-only p l off before after =
+          let (m, s) = passed done in
+          let long = m .right .lengths .grid-long in
+          let out = dest-beyond rows cols grid long in
+          let out' = dest-beyond rows cols (changed grid place code) (mendable-long m) in
+          let above : downb (rows * cols) (destOf rows cols grid) place p ≡ false = elim (test (downb (rows * cols) (destOf rows cols grid) place p)) [
+            | inl t ↦ absurd (before (l, downb-iff (rows * cols) (destOf rows cols grid) out place p l .0 t))
+            | inr t ↦ t
+          ] in
+          let above' : downb (rows * cols) (destOf rows cols (changed grid place code)) place p ≡ false = elim (test (downb (rows * cols) (destOf rows cols (changed grid place code)) place p)) [
+            | inl t ↦ absurd (after (l, downb-iff (rows * cols) (destOf rows cols (changed grid place code)) out' place p l .0 t))
+            | inr t ↦ t
+          ] in
+          sym (differs-only (rows * cols) place (destOf rows cols grid) (destOf rows cols (changed grid place code)) out out' (changed-alike rows cols grid place code)
+          (counts-no-loop rows cols grid long counts (m .right .equation)) (counts-no-loop rows cols (changed grid place code) (mendable-long m) (e .counts) (s .equation))
+          (unit grid) (unit (changed grid place code)) (changed-unit rows cols grid place code) (countAt counts) (countAt (e .counts)) (m .right .equation) (s .equation) p l off above above')
+
+    -- ---- refused
+
+    -- REFUSED FOR A LOOP EXACTLY WHEN THE CHANGE WOULD CLOSE ONE, where no refusal before that applies
+    pub mend-loop-iff : Mendable rows cols grid counts place code → (numberOf (e .said) ≡ 4) ↔ ((p : ℕ) × SheetOnLoop rows cols (changed grid place code) p)
+    mend-loop-iff m = (
+      λ z. elim (changes m) [
+        | refused-with v a d ↦ (v .place, a .here)
+        | met-none n s ↦ absurd (let k : numberOf (e .said) ≡ 0 = ap numberOf (s .said-is) in omega arith)
+      ],
+      λ (p, on). elim (changes m) [
+        | refused-with v a d ↦ ap (λ (y : MendEnd). numberOf (y .said)) d
+        | met-none n s ↦ absurd (elim (loop-or-free (rows * cols) (destOf rows cols (changed grid place code)) (dest-beyond rows cols (changed grid place code) (mendable-long m))) [
+          | inl free ↦ free p (on .0) (on .1)
+          | inr first ↦ n (record { place = first .0; len = _ }) (first .1)
+        ])
+      ],
+    )
+
+    -- A REFUSAL leaves grid and counts as they were lent
+    pub refused-as-lent : (numberOf (e .said) ≡ 0 → ⊥) → (e .grid ≡ grid) × (e .counts ≡ counts)
+    refused-as-lent h = as-lent promise
+      where
+        same : {said : Reply} → e ≡ ends said grid counts → (e .grid ≡ grid) × (e .counts ≡ counts)
+        same d = (ap (λ (y : MendEnd). y .grid) d, ap (λ (y : MendEnd). y .counts) d)
+
+        as-lent : MendPromise rows cols grid counts place code e → (e .grid ≡ grid) × (e .counts ≡ counts)
+        as-lent (refused n d) = same d
+        as-lent (met a (refused n d)) = same d
+        as-lent (met a (met b (refused-at p f d))) = same d
+        as-lent (met a (met b (met-all k (refused-at p f d)))) = same d
+        as-lent (met a (met b (met-all k (met-all l (refused n d))))) = same d
+        as-lent (met a (met b (met-all k (met-all l (met i (refused n d)))))) = same d
+        as-lent (met a (met b (met-all k (met-all l (met i (met j (refused-with v w d))))))) = same d
+        as-lent (met a (met b (met-all k (met-all l (met i (met j (met-none n s))))))) = absurd (h (ap numberOf (s .said-is)))
+
+    -- ---- the code already there
+
+    -- MENDING WITH THE CODE ALREADY THERE is done and alters neither grid nor counts
+    pub mend-same-code : Mendable rows cols grid counts place code → code ≡ codeAt grid place → e ≡ ends (reply 0 []) grid counts
+    mend-same-code m there =
+        let stays : changed grid place code ≡ grid = ap (λ (x : ℕ). set grid place x) there ∙ set-getD grid place 255 in
+        let eq : SheetCounts rows cols (changed grid place code) counts = rw stays (m .right .equation) in
+        let free : SheetNoLoop rows cols (changed grid place code) = counts-no-loop rows cols (changed grid place code) (mendable-long m) counts eq in
+        mend-one rows cols grid counts place code _ _ promise (promised m (met-none (λ v first. first-loop-free free first) record {
+          stored = sym stays;
+          long = m .right .lengths .counts-long;
+          equation = eq;
+          said-is = refl;
+        }))

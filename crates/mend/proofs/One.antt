@@ -1,0 +1,74 @@
+-- The promise of mending admits one outcome only: one reply, one answer of the enum, and one content of grid and counts.
+-- Assumes nothing.
+use mathlib.Core.Bool.{cond}
+use mathlib.Core.List.{List, []}
+use mathlib.Core.Path.{_≡_, refl, sym, ap, _∙_}
+use Prim.Native.Nat.{ℕ, _*_, _<_}
+use lib.Dec.{eqb}
+use lib.ListN.{length, getD, set, length-set}
+use lib.Seq.{ext-getD}
+use Rattle.promise.specs.Links.{AtMostOne}
+use Rattle.promise.specs.Reply.{Reply}
+use Rattle.promise.specs.Reply.Reply.{reply}
+use Rattle.promise.proofs.One.{unless-one, unless-one-met, unless-all-one, unless-some-one}
+use Rattle.flow.proofs.Loop.{first-loop-one}
+use Rattle.sheet.specs.Sheet.{SheetCounts, LoopIn}
+use Rattle.sheet.proofs.Passes.{sheet-counts-unique}
+use Rattle.mend.specs.Mend.{MendPromise, MendEnd, Mended, changed, mendReply, ends}
+use Rattle.mend.specs.declared.MendReply.{MendReply}
+use Rattle.mend.specs.declared.MendReply.the-variants.{Done, Shape, Length, Code, Count, Place, NewCode, Loop}
+
+-- the paper's number and values tell the answers apart
+mendOf : Reply → MendReply
+mendOf (reply n vs) =
+    cond (eqb n 0) Done
+    (cond (eqb n 1) Shape
+    (cond (eqb n 2) Length
+    (cond (eqb n 3) (Code (getD vs 0 0))
+    (cond (eqb n 4) (Loop (getD vs 0 0) (getD vs 1 0))
+    (cond (eqb n 5) (Count (getD vs 0 0))
+    (cond (eqb n 6) Place NewCode))))))
+
+mend-back : (r : MendReply) → mendOf (mendReply r) ≡ r
+unfolding mendOf
+mend-back Done = refl
+mend-back Shape = refl
+mend-back Length = refl
+mend-back (Code p) = refl
+mend-back (Loop p len) = refl
+mend-back (Count p) = refl
+mend-back Place = refl
+mend-back NewCode = refl
+
+-- there is one first loop at most
+loop-one : (rows cols : ℕ) (grid : List ℕ) → AtMostOne (LoopIn rows cols grid)
+loop-one rows cols grid v w a b =
+    let (place, len) = first-loop-one a b in
+    λ i. record { place = place i; len = len i }
+
+-- the counts of a grid are determined by equation 1
+pub counts-one : (rows cols : ℕ) (grid c d : List ℕ) → length grid ≡ rows * cols → length c ≡ rows * cols → length d ≡ rows * cols
+    → SheetCounts rows cols grid c → SheetCounts rows cols grid d → c ≡ d
+counts-one rows cols grid c d long lc ld a b =
+    ext-getD 0 c d (lc ∙ sym ld) (λ q h. sheet-counts-unique rows cols grid long c d a b q (rw lc at h))
+
+mended-one : (rows cols : ℕ) (grid : List ℕ) (place code : ℕ) → length grid ≡ rows * cols → AtMostOne (Mended rows cols grid place code)
+mended-one rows cols grid place code long e f a b =
+    let counts : e .counts ≡ f .counts = counts-one rows cols (changed grid place code) (e .counts) (f .counts) (simp length-set long) (a .long) (b .long) (a .equation) (b .equation) in
+    let stored : e .grid ≡ f .grid = a .stored ∙ sym (b .stored) in
+    let said : e .said ≡ f .said = a .said-is ∙ sym (b .said-is) in
+    λ i. record { said = said i; grid = stored i; counts = counts i }
+
+module _ (rows cols : ℕ) (grid counts : List ℕ) (place code : ℕ) where
+  pub mend-one : AtMostOne (MendPromise rows cols grid counts place code)
+  mend-one =
+      unless-one (unless-one-met (λ l.
+      unless-all-one (unless-all-one (unless-one (unless-one
+      (unless-some-one (loop-one rows cols (changed grid place code)) (mended-one rows cols grid place code (l .grid-long))))))))
+
+  -- in the contract's own terms
+  pub mend-one-answer : (r s : MendReply) (g h c d : List ℕ) → MendPromise rows cols grid counts place code (ends (mendReply r) g c)
+      → MendPromise rows cols grid counts place code (ends (mendReply s) h d) → (r ≡ s) × (g ≡ h) × (c ≡ d)
+  mend-one-answer r s g h c d a b =
+      let same = mend-one _ _ a b in
+      (sym (mend-back r) ∙ ap (λ (e : MendEnd). mendOf (e .said)) same ∙ mend-back s, ap (λ (e : MendEnd). e .grid) same, ap (λ (e : MendEnd). e .counts) same)
