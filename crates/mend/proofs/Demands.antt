@@ -1,14 +1,13 @@
 -- What mending promises, in the words of the demand.
 -- Assumes nothing.
 use mathlib.Core.Bool.{true, false}
-use mathlib.Core.List.{List, [], _∷_}
+use mathlib.Core.List.{List, []}
 use mathlib.Core.Logic.{inl, inr, _↔_}
 use mathlib.Core.Path.{_≡_, refl, sym, ap, _∙_}
 use Prim.Native.Nat.{ℕ, _*_, _<_}
 use native.Mathlib.Omega.{arith}
 use lib.ListN.{length, set, length-set}
 use lib.Seq.{set-getD}
-use Rattle.promise.specs.Links.{Unless, UnlessAll, UnlessSome}
 use Rattle.promise.specs.Links.Unless.{refused, met}
 use Rattle.promise.specs.Links.UnlessAll.{refused-at, met-all}
 use Rattle.promise.specs.Links.UnlessSome.{refused-with, met-none}
@@ -26,7 +25,7 @@ use Rattle.sheet.proofs.Change.{changed-alike, changed-unit, changed-code}
 use Rattle.sheet.proofs.Dest.{dest-beyond}
 use Rattle.sheet.proofs.Passes.{counts-no-loop}
 use Rattle.checking.proofs.Demands.{Right}
-use Rattle.mend.specs.Mend.{MendPromise, MendCell, MendEnd, Changed, Mended, changed, ends}
+use Rattle.mend.specs.Mend.{MendPromise, MendEnd, Changed, Mended, changed, ends}
 use Rattle.mend.proofs.One.{mend-one, counts-one}
 
 -- none of 1, 2, 3, 5, 6 and 7 applies

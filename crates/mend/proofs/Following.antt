@@ -13,7 +13,6 @@ use Rattle.flow.proofs.Close.{closes-first}
 use Rattle.flow.proofs.Follow.{follow-ends, follow-out}
 use Rattle.flow.proofs.Sum.{same}
 use Rattle.flow.proofs.Walk.{steps-suc, inside-at}
-use Rattle.flow.proofs.Without.{Without}
 use Rattle.sheet.specs.Sheet.{destOf, unit, SheetNoLoop, SheetLoop}
 use Rattle.sheet.proofs.Change.{changed-long, sheet-without}
 use Rattle.sheet.proofs.Dest.{dest-beyond}

@@ -3,7 +3,7 @@
 use mathlib.Core.Bool.{true, false}
 use mathlib.Core.List.{List}
 use mathlib.Core.Logic.{inl, inr}
-use mathlib.Core.Path.{_≡_, refl, sym, ap, _∙_}
+use mathlib.Core.Path.{_≡_, _∙_}
 use Prim.Native.Nat.{ℕ, _+_, _*_, _<_, _≤_}
 use native.Mathlib.Omega.{arith}
 use lib.ListN.{length, getD, set, length-set}
@@ -14,7 +14,7 @@ use Rattle.flow.proofs.Close.{without-free}
 use Rattle.flow.proofs.Mend.{Off}
 use Rattle.flow.proofs.MendBound.{off-bound}
 use Rattle.flow.proofs.Sum.{same, on-true, on-false}
-use Rattle.flow.proofs.Without.{Without, take-out, take-out-end, put-off}
+use Rattle.flow.proofs.Without.{take-out, take-out-end, put-off}
 use Rattle.sheet.specs.Compass.{isArrow}
 use Rattle.sheet.specs.Leaves.{Laid}
 use Rattle.sheet.specs.Sheet.{landAt, destOf, unit, countAt, SheetCounts, SheetNoLoop}

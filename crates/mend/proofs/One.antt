@@ -1,11 +1,11 @@
 -- The promise of mending admits one outcome only: one reply, one answer of the enum, and one content of grid and counts.
 -- Assumes nothing.
 use mathlib.Core.Bool.{cond}
-use mathlib.Core.List.{List, []}
+use mathlib.Core.List.{List}
 use mathlib.Core.Path.{_≡_, refl, sym, ap, _∙_}
-use Prim.Native.Nat.{ℕ, _*_, _<_}
+use Prim.Native.Nat.{ℕ, _*_}
 use lib.Dec.{eqb}
-use lib.ListN.{length, getD, set, length-set}
+use lib.ListN.{length, getD, length-set}
 use lib.Seq.{ext-getD}
 use Rattle.promise.specs.Links.{AtMostOne}
 use Rattle.promise.specs.Reply.{Reply}

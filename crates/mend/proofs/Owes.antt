@@ -1,13 +1,13 @@
 -- One step of carrying a difference down a way: the cell that owes it is set right, and the next one owes it.
 -- Assumes nothing.
 use mathlib.Core.List.{List}
-use mathlib.Core.Path.{_≡_, refl, sym, ap, _∙_}
+use mathlib.Core.Path.{_≡_, ap}
 use Prim.Native.Nat.{ℕ, _+_, _-_, _*_, _<_, _≤_}
 use native.Mathlib.Omega.{arith}
-use lib.ListN.{length, getD, set, length-set}
+use lib.ListN.{getD, set, length-set}
 use lib.Seq.{getD-set-same, getD-set-other}
 use Rattle.flow.specs.Net.{steps}
-use Rattle.flow.proofs.Mend.{Off, Stored, mend-on, mend-end}
+use Rattle.flow.proofs.Mend.{Stored, mend-on, mend-end}
 use Rattle.flow.proofs.MendBound.{off-bound}
 use Rattle.flow.proofs.Test.{toGo, toGo-falls}
 use Rattle.sheet.specs.Leaves.{Laid}

@@ -1,8 +1,7 @@
 // Mending the counts of a sheet after one changed cell: the lent sheet is checked, the water of the changed cell is followed once to see
 // whether it comes back, and then the cell is taken out of the counts with its old code and put in with its new one.
-pub mod method;
+mod method;
 
-ghost use mathlib.Core.Path.{_≡_};
 ghost use Prim.Native.Nat.{_*_, _<_};
 ghost use Rattle.sheet.specs.Leaves.{Laid};
 ghost use Rattle.sheet.specs.Sheet.{SheetCounts};

@@ -1,8 +1,7 @@
 // The two moves of mending, and the look ahead before them.
-ghost use mathlib.Core.Bool.{true};
 ghost use mathlib.Core.Path.{_≡_};
 ghost use Prim.Native.Nat.{_*_, _<_, _≤_};
-ghost use lib.ListN.{length, set};
+ghost use lib.ListN.{set};
 ghost use Rattle.sheet.specs.Leaves.{Laid};
 ghost use Rattle.sheet.specs.Sheet.{SheetCounts, SheetNoLoop};
 ghost use Rattle.mend.specs.Method.{Follows, Owing, Settled, Smaller};

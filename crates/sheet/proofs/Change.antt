@@ -1,9 +1,9 @@
 -- A sheet with another code at one place t: what stays, and the sheet without that cell.
 -- Assumes nothing.
-use mathlib.Core.Bool.{true, false, true≢false}
+use mathlib.Core.Bool.{false, true≢false}
 use mathlib.Core.List.{List}
-use mathlib.Core.Path.{_≡_, refl, sym, ap, _∙_}
-use Prim.Native.Nat.{ℕ, _*_, _<_, _≤_}
+use mathlib.Core.Path.{_≡_, sym, ap, _∙_}
+use Prim.Native.Nat.{ℕ, _*_, _<_}
 use native.Mathlib.Omega.{arith}
 use lib.ListN.{length, set, length-set}
 use lib.Seq.{getD-set-same, getD-set-other}

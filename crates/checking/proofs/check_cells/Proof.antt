@@ -1,6 +1,6 @@
 -- `checking::check_cells` meets its contract: a bad code, a place that breaks the equation, or neither.
 -- Assumes nothing.
-use mathlib.Core.Path.{_≡_, refl}
+use mathlib.Core.Path.{refl}
 use Rattle.promise.specs.Links.UnlessAll.{refused-at, met-all}
 use borrow.Author.Needs.{needs}
 use Rattle.checking.proofs.check_cells.Statement.{statement}

@@ -1,6 +1,6 @@
 -- `checking::is_right` meets its contract: a law of the test for each way through it.
 -- Assumes nothing.
-use mathlib.Core.Path.{_≡_, sym, _∙_}
+use mathlib.Core.Path.{sym, _∙_}
 use native.Mathlib.Omega.{arith}
 use Rattle.sheet.proofs.Dest.{land-read}
 use Rattle.sheet.proofs.Places.{place-of}
