@@ -7,7 +7,7 @@ use mathlib.Core.Path.{_≡_, refl, sym, ap, _∙_}
 use Prim.Native.Nat.{ℕ, _*_, _<_}
 use native.Mathlib.Omega.{arith}
 use lib.ListN.{length, set, length-set}
-use lib.Seq.{set-getD}
+use lib.Seq.{getD-set-other, set-getD}
 use Rattle.promise.specs.Links.Unless.{refused, met}
 use Rattle.promise.specs.Links.UnlessAll.{refused-at, met-all}
 use Rattle.promise.specs.Links.UnlessSome.{refused-with, met-none}
@@ -17,7 +17,7 @@ use Rattle.promise.proofs.Apart.{unless-met, unless-all-met, unless-some-met, u
 use Rattle.flow.specs.Net.{downb}
 use Rattle.flow.proofs.Alike.{differs-only}
 use Rattle.flow.proofs.Loop.{loop-or-free, first-loop-free}
-use Rattle.flow.proofs.Sum.{test}
+use Rattle.flow.proofs.Sum.{test, same}
 use Rattle.flow.proofs.Walk.{downb-iff}
 use Rattle.sheet.specs.Compass.{isCode}
 use Rattle.sheet.specs.Sheet.{codeAt, destOf, unit, countAt, Downstream, SheetCounts, SheetNoLoop, SheetOnLoop}
@@ -109,6 +109,20 @@ module _ (rows cols : ℕ) (grid counts : List ℕ) (place code : ℕ) where
           (counts-no-loop rows cols grid long counts (m .right .equation)) (counts-no-loop rows cols (changed grid place code) (mendable-long m) (e .counts) (s .equation))
           (unit grid) (unit (changed grid place code)) (changed-unit rows cols grid place code) (countAt counts) (countAt (e .counts)) (m .right .equation) (s .equation) p l off above above')
 
+      -- THE MENDED SHEET passes a check, and so can be mended again
+      pub mended-right : Right rows cols (e .grid) (e .counts)
+      mended-right =
+          let (m, s) = passed done in
+          rw (s .stored) record {
+            shape = m .right .shape;
+            lengths = record { grid-long = mendable-long m; counts-long = s .long };
+            codes = λ q l. elim (same q place) [
+              | inl d ↦ rw d (ap isCode (changed-code rows cols grid place code (m .inside) (m .right .lengths .grid-long)) ∙ m .code-ok)
+              | inr d ↦ ap isCode (getD-set-other grid place q code 255 d) ∙ m .right .codes q l
+            ];
+            equation = s .equation;
+          }
+
     -- ---- refused
 
     -- REFUSED FOR A LOOP EXACTLY WHEN THE CHANGE WOULD CLOSE ONE, where no refusal before that applies
@@ -131,17 +145,17 @@ module _ (rows cols : ℕ) (grid counts : List ℕ) (place code : ℕ) where
     pub refused-as-lent : (numberOf (e .said) ≡ 0 → ⊥) → (e .grid ≡ grid) × (e .counts ≡ counts)
     refused-as-lent h = as-lent promise
       where
-        same : {said : Reply} → e ≡ ends said grid counts → (e .grid ≡ grid) × (e .counts ≡ counts)
-        same d = (ap (λ (y : MendEnd). y .grid) d, ap (λ (y : MendEnd). y .counts) d)
+        unchanged : {said : Reply} → e ≡ ends said grid counts → (e .grid ≡ grid) × (e .counts ≡ counts)
+        unchanged d = (ap (λ (y : MendEnd). y .grid) d, ap (λ (y : MendEnd). y .counts) d)
 
         as-lent : MendPromise rows cols grid counts place code e → (e .grid ≡ grid) × (e .counts ≡ counts)
-        as-lent (refused n d) = same d
-        as-lent (met a (refused n d)) = same d
-        as-lent (met a (met b (refused-at p f d))) = same d
-        as-lent (met a (met b (met-all k (refused-at p f d)))) = same d
-        as-lent (met a (met b (met-all k (met-all l (refused n d))))) = same d
-        as-lent (met a (met b (met-all k (met-all l (met i (refused n d)))))) = same d
-        as-lent (met a (met b (met-all k (met-all l (met i (met j (refused-with v w d))))))) = same d
+        as-lent (refused n d) = unchanged d
+        as-lent (met a (refused n d)) = unchanged d
+        as-lent (met a (met b (refused-at p f d))) = unchanged d
+        as-lent (met a (met b (met-all k (refused-at p f d)))) = unchanged d
+        as-lent (met a (met b (met-all k (met-all l (refused n d))))) = unchanged d
+        as-lent (met a (met b (met-all k (met-all l (met i (refused n d)))))) = unchanged d
+        as-lent (met a (met b (met-all k (met-all l (met i (met j (refused-with v w d))))))) = unchanged d
         as-lent (met a (met b (met-all k (met-all l (met i (met j (met-none n s))))))) = absurd (h (ap numberOf (s .said-is)))
 
     -- ---- the code already there
