@@ -1,53 +1,59 @@
--- `checking::first_wrong` meets its contract: each place passed satisfies the equation.
+-- `checking::first_wrong` meets its contract: each row passed satisfies the equation.
 -- Assumes nothing.
-use mathlib.Core.Path.{sym, _∙_}
+use mathlib.Core.Path.{_≡_}
 use native.Mathlib.Omega.{arith}
-use Prim.Native.Nat.{ℕ, _≤_, _<_, _-_}
-use borrow.Author.Count.{below-none, below-more}
-use borrow.Author.Tests.{not-true, not-false}
-use lib.ListN.{length}
-use Rattle.checking.specs.Check.{CountOk}
-use Rattle.checking.proofs.Right.{right-says, wrong-says}
+use Prim.Native.Nat.{_-_, _*_, _≤_}
+use Rattle.checking.specs.Leaf.{RightBelow}
+use Rattle.checking.proofs.Right.{row-end, row-next, first-further}
 use borrow.Author.Needs.{needs}
 use Rattle.checking.proofs.first_wrong.Statement.{statement}
 use Rattle.checking.proofs.first_wrong.Tie as tie
 
 abbrev Inv-loop : tie.InvT-loop
-Inv-loop rows cols grid counts i₀ i = (i ≤ length grid) × ((q : ℕ) → q < i → CountOk rows cols grid counts q)
+Inv-loop rows cols grid counts r₀ r = (r ≤ rows) × RightBelow rows cols grid counts (r * cols)
 
 abbrev μ-loop : tie.MeasureT-loop
-μ-loop rows cols grid counts i₀ i = length grid - i
+μ-loop rows cols grid counts r₀ r = rows - r
 
 loop-holds : tie.Need-loop-holds Inv-loop μ-loop
-loop-holds c = (search needs, below-none _)
+loop-holds c = (omega arith, λ q l. absurd (omega arith))
 
-is-right-requires : tie.Need-is-right-requires Inv-loop μ-loop
-is-right-requires c κs = search needs
+wrong-in-row-requires : tie.Need-wrong-in-row-requires Inv-loop μ-loop
+wrong-in-row-requires c κs = (c .before .before .before .before .pre, (c .loop-test .taken, c .before .loop .inv .1))
+
+enum-known-p : tie.Need-enum-known-p Inv-loop μ-loop
+enum-known-p c = search needs
 
 returns : tie.Need-returns Inv-loop μ-loop
 returns c =
-    let at = c .before .before .before in
+    let found = c .before .before .before in
+    let at = found .before .before in
     let a = at .before .before .before .args in
-    record {
-      inside = search needs;
-      here = wrong-says (a .rows) (a .cols) (a .grid .now) (a .counts .now) (at .loop .i) (sym (c .before .is-right .ensures) ∙ not-true _ (c .if1 .taken));
-      before = at .loop .inv .1;
-    }
+    first-further (row-end (a .rows) (a .cols) (at .loop .r) (found .before .loop-test .taken)) (rw (c .before .p .given .1) at (found .wrong-in-row .ensures))
 
-add-i : tie.Need-add-i Inv-loop μ-loop
-add-i c = search needs
+enum-told : tie.Need-enum-told Inv-loop μ-loop
+enum-told c = search needs
+
+add-r : tie.Need-add-r Inv-loop μ-loop
+add-r c = search needs
 
 loop-less : tie.Need-loop-less Inv-loop μ-loop
 loop-less c = search needs
 
 loop-again : tie.Need-loop-again Inv-loop μ-loop
 loop-again c =
-    let at = c .before .before .before in
+    let found = c .before .before in
+    let at = found .before .before in
     let a = at .before .before .before .args in
-    (search needs, below-more _ _ (at .loop .inv .1) (right-says (a .rows) (a .cols) (a .grid .now) (a .counts .now) (at .loop .i) (sym (c .before .is-right .ensures) ∙ not-false _ (c .if1 .left))))
+    let all = rw (c .enum-told .given .1) at (found .wrong-in-row .ensures) in
+    (omega arith, λ q l. all q (omega (arith, row-next (a .cols) (at .loop .r))))
 
 returns-2 : tie.Need-returns-2 Inv-loop μ-loop
-returns-2 c = λ q l. c .before .loop .inv .1 q (omega arith)
+returns-2 c =
+    let at = c .before in
+    let a = at .before .before .before .args in
+    let all : at .loop .r ≡ a .rows = omega arith in
+    rw all at (at .loop .inv .1)
 
 pub first-wrong-spec : {M : Type 1} → statement M
 first-wrong-spec =
@@ -56,9 +62,11 @@ first-wrong-spec =
     Inv-loop
     μ-loop
     loop-holds
-    is-right-requires
+    wrong-in-row-requires
+    enum-known-p
     returns
-    add-i
+    enum-told
+    add-r
     loop-less
     loop-again
     returns-2)
