@@ -15,21 +15,22 @@ use Rattle.checking.specs.declared.CheckReply.{CheckReply}
 use Rattle.checking.specs.declared.CheckReply.the-variants.{Done, Shape, Length, Code, Count}
 
 -- the paper's number and values tell the answers apart
-checkOf : Reply → CheckReply
-checkOf (reply n vs) =
+answerOf : Reply → CheckReply
+answerOf (reply n vs) =
     cond (eqb n 0) Done (cond (eqb n 1) Shape (cond (eqb n 2) Length (cond (eqb n 3) (Code (getD vs 0 0)) (Count (getD vs 0 0)))))
 
-check-back : (r : CheckReply) → checkOf (checkReply r) ≡ r
-unfolding checkOf
-check-back Done = refl
-check-back Shape = refl
-check-back Length = refl
-check-back (Code p) = refl
-check-back (Count p) = refl
+answer-back : (r : CheckReply) → answerOf (checkReply r) ≡ r
+unfolding answerOf
+answer-back Done = refl
+answer-back Shape = refl
+answer-back Length = refl
+answer-back (Code p) = refl
+answer-back (Count p) = refl
 
 module _ (rows cols : ℕ) (grid counts : List ℕ) where
   pub check-one : AtMostOne (CheckPromise rows cols grid counts)
   check-one = unless-one (unless-one (unless-all-one (unless-all-one (is-one (reply 0 [])))))
 
-  pub check-one-answer : AtMostOne (λ r. CheckPromise rows cols grid counts (checkReply r))
-  check-one-answer = one-value checkReply checkOf check-back check-one
+  -- and of the answer itself
+  pub check-answer-one : AtMostOne (λ r. CheckPromise rows cols grid counts (checkReply r))
+  check-answer-one = one-value checkReply answerOf answer-back check-one

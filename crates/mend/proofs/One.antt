@@ -2,7 +2,7 @@
 -- Assumes nothing.
 use mathlib.Core.Bool.{cond}
 use mathlib.Core.List.{List}
-use mathlib.Core.Path.{_≡_, refl, sym, ap, _∙_}
+use mathlib.Core.Path.{_≡_, refl, sym, _∙_}
 use Prim.Native.Nat.{ℕ, _*_}
 use lib.Dec.{eqb}
 use lib.ListN.{length, getD, length-set}
@@ -10,17 +10,17 @@ use lib.Seq.{ext-getD}
 use Rattle.promise.specs.Links.{AtMostOne}
 use Rattle.promise.specs.Reply.{Reply}
 use Rattle.promise.specs.Reply.Reply.{reply}
-use Rattle.promise.proofs.One.{unless-one, unless-one-met, unless-all-one, unless-some-one}
+use Rattle.promise.proofs.One.{unless-one, unless-one-met, unless-all-one, unless-some-one, one-value}
 use Rattle.flow.proofs.Loop.{first-loop-one}
 use Rattle.sheet.specs.Sheet.{SheetCounts, LoopIn}
 use Rattle.sheet.proofs.Passes.{sheet-counts-unique}
-use Rattle.mend.specs.Mend.{MendPromise, MendEnd, Mended, changed, mendReply, ends}
+use Rattle.mend.specs.Mend.{MendPromise, Mended, changed, mendReply, ends}
 use Rattle.mend.specs.declared.MendReply.{MendReply}
 use Rattle.mend.specs.declared.MendReply.the-variants.{Done, Shape, Length, Code, Count, Place, NewCode, Loop}
 
 -- the paper's number and values tell the answers apart
-mendOf : Reply → MendReply
-mendOf (reply n vs) =
+answerOf : Reply → MendReply
+answerOf (reply n vs) =
     cond (eqb n 0) Done
     (cond (eqb n 1) Shape
     (cond (eqb n 2) Length
@@ -29,16 +29,22 @@ mendOf (reply n vs) =
     (cond (eqb n 5) (Count (getD vs 0 0))
     (cond (eqb n 6) Place NewCode))))))
 
-mend-back : (r : MendReply) → mendOf (mendReply r) ≡ r
-unfolding mendOf
-mend-back Done = refl
-mend-back Shape = refl
-mend-back Length = refl
-mend-back (Code p) = refl
-mend-back (Loop p len) = refl
-mend-back (Count p) = refl
-mend-back Place = refl
-mend-back NewCode = refl
+answer-back : (r : MendReply) → answerOf (mendReply r) ≡ r
+unfolding answerOf
+answer-back Done = refl
+answer-back Shape = refl
+answer-back Length = refl
+answer-back (Code p) = refl
+answer-back (Loop p len) = refl
+answer-back (Count p) = refl
+answer-back Place = refl
+answer-back NewCode = refl
+
+-- an answer with the grid and the counts that it leaves
+pub record Answer : Type 0 where
+  pub answer : MendReply
+  pub grid-after : List ℕ
+  pub counts-after : List ℕ
 
 -- there is one first loop at most
 loop-one : (rows cols : ℕ) (grid : List ℕ) → AtMostOne (LoopIn rows cols grid)
@@ -66,9 +72,10 @@ module _ (rows cols : ℕ) (grid counts : List ℕ) (place code : ℕ) where
       unless-all-one (unless-all-one (unless-one (unless-one
       (unless-some-one (loop-one rows cols (changed grid place code)) (mended-one rows cols grid place code (l .grid-long))))))))
 
-  -- in the contract's own terms
-  pub mend-one-answer : (r s : MendReply) (g h c d : List ℕ) → MendPromise rows cols grid counts place code (ends (mendReply r) g c)
-      → MendPromise rows cols grid counts place code (ends (mendReply s) h d) → (r ≡ s) × (g ≡ h) × (c ≡ d)
-  mend-one-answer r s g h c d a b =
-      let same = mend-one _ _ a b in
-      (sym (mend-back r) ∙ ap (λ (e : MendEnd). mendOf (e .said)) same ∙ mend-back s, ap (λ (e : MendEnd). e .grid) same, ap (λ (e : MendEnd). e .counts) same)
+  -- and of the answer itself
+  pub mend-answer-one : AtMostOne (λ (a : Answer). MendPromise rows cols grid counts place code (ends (mendReply (a .answer)) (a .grid-after) (a .counts-after)))
+  mend-answer-one =
+      one-value (λ a. ends (mendReply (a .answer)) (a .grid-after) (a .counts-after))
+      (λ e. record { answer = answerOf (e .said); grid-after = e .grid; counts-after = e .counts })
+      (λ a i. record { answer = answer-back (a .answer) i; grid-after = a .grid-after; counts-after = a .counts-after })
+      mend-one
