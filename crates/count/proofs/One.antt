@@ -4,33 +4,21 @@ use mathlib.Core.Bool.{cond}
 use mathlib.Core.List.{List}
 use mathlib.Core.Path.{_≡_, refl, sym, ap, _∙_}
 use Prim.Native.Nat.{ℕ, _*_}
-use native.Mathlib.Omega.{arith}
 use lib.Dec.{eqb}
 use lib.ListN.{length, getD}
-use lib.Seq.{ext-getD}
 use Rattle.promise.specs.Links.{AtMostOne}
 use Rattle.promise.specs.Reply.{Reply}
 use Rattle.promise.specs.Reply.Reply.{reply}
 use Rattle.promise.proofs.One.{unless-one, unless-one-met, unless-all-one, unless-some-one, one-value}
-use Rattle.flow.proofs.Loop.{first-loop-one}
-use Rattle.sheet.specs.Sheet.{LoopFound, LoopIn}
-use Rattle.sheet.proofs.Passes.{sheet-counts-unique}
+use Rattle.sheet.proofs.Unique.{loop-one, counts-one}
 use Rattle.count.specs.Count.{CountPromise, CountEnd, Counted, countReply, ends}
 use Rattle.count.specs.declared.CountReply.{CountReply}
 use Rattle.count.specs.declared.CountReply.the-variants.{Done, Shape, Length, Code, Loop}
 
--- one loop is the first
-pub loop-one : (rows cols : ℕ) (grid : List ℕ) → AtMostOne (LoopIn rows cols grid)
-loop-one rows cols grid v w a b =
-    let (place, len) = first-loop-one a b in
-    λ i. record { place = place i; len = len i }
-
 -- the equation has one solution, and the reply is given
 pub counted-one : (rows cols : ℕ) (grid : List ℕ) → length grid ≡ rows * cols → AtMostOne (Counted rows cols grid)
 counted-one rows cols grid long e f a b =
-    let counts : e .counts ≡ f .counts =
-    ext-getD 0 (e .counts) (f .counts) (a .long ∙ sym (b .long))
-    (λ p l. sheet-counts-unique rows cols grid long (e .counts) (f .counts) (a .equation) (b .equation) p (rw (a .long) at l)) in
+    let counts : e .counts ≡ f .counts = counts-one rows cols grid (e .counts) (f .counts) long (a .long) (b .long) (a .equation) (b .equation) in
     let said : e .said ≡ f .said = a .said-is ∙ rw counts (sym (b .said-is)) in
     λ i. record { said = said i; counts = counts i }
 

@@ -3,9 +3,13 @@ ghost use mathlib.Core.Path.{_≡_};
 ghost use mathlib.Core.List.{[], _∷_};
 ghost use Rattle.promise.specs.Reply.{Reply};
 ghost use Rattle.promise.specs.Reply.Reply.{reply};
+ghost use Rattle.checking.specs.Check.{CheckPromise};
 ghost use Rattle.count.specs.Count.{CountPromise, ends};
+ghost use Rattle.mend.specs.Mend.{MendPromise, ends as mend-ends};
 ghost use Rattle.drainage.specs.Flat.{flat};
+use checking::CheckReply;
 use count::CountReply;
+use mend::MendReply;
 
 // The paper's number of a reply and its values, 0 where there is none.
 #[repr(C)]
@@ -48,5 +52,41 @@ pub extern "C" fn drainage_count(rows: usize, cols: usize, grid: &[u8], counts: 
         CountReply::Length => replied(2, 0, 0, 0),
         CountReply::Code(place) => replied(3, place as u64, 0, 0),
         CountReply::Loop { place, length } => replied(4, place as u64, length as u64, 0),
+    }
+}
+
+#[no_mangle]
+pub extern "C" fn drainage_check(rows: usize, cols: usize, grid: &[u8], counts: &[u32]) -> Flat
+    ensures { λ r. ⌜ ((s : Reply) × CheckPromise rows cols (now (grid .entry)) (now (counts .entry)) s × (r ≡ flat s)) ⌝ }
+{
+    match checking::check(rows, cols, grid, counts) {
+        CheckReply::Done => replied(0, 0, 0, 0),
+        CheckReply::Shape => replied(1, 0, 0, 0),
+        CheckReply::Length => replied(2, 0, 0, 0),
+        CheckReply::Code(place) => replied(3, place as u64, 0, 0),
+        CheckReply::Count(place) => replied(5, place as u64, 0, 0),
+    }
+}
+
+#[no_mangle]
+pub extern "C" fn drainage_mend(
+    rows: usize,
+    cols: usize,
+    grid: &mut [u8],
+    counts: &mut [u32],
+    place: usize,
+    code: u8,
+) -> Flat
+    ensures { λ r. ⌜ ((s : Reply) × MendPromise rows cols (now (grid .entry)) (now (counts .entry)) place code (mend-ends s (now (grid .exit)) (now (counts .exit))) × (r ≡ flat s)) ⌝ }
+{
+    match mend::mend(rows, cols, grid, counts, place, code) {
+        MendReply::Done => replied(0, 0, 0, 0),
+        MendReply::Shape => replied(1, 0, 0, 0),
+        MendReply::Length => replied(2, 0, 0, 0),
+        MendReply::Code(at) => replied(3, at as u64, 0, 0),
+        MendReply::Count(at) => replied(5, at as u64, 0, 0),
+        MendReply::Place => replied(6, 0, 0, 0),
+        MendReply::NewCode => replied(7, 0, 0, 0),
+        MendReply::Loop { place, length } => replied(4, place as u64, length as u64, 0),
     }
 }

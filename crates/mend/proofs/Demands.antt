@@ -26,7 +26,8 @@ use Rattle.sheet.proofs.Dest.{dest-beyond}
 use Rattle.sheet.proofs.Passes.{counts-no-loop}
 use Rattle.checking.proofs.Demands.{Right}
 use Rattle.mend.specs.Mend.{MendPromise, MendEnd, Changed, Mended, changed, ends}
-use Rattle.mend.proofs.One.{mend-one, counts-one}
+use Rattle.sheet.proofs.Unique.{counts-one}
+use Rattle.mend.proofs.One.{mend-one}
 
 -- none of 1, 2, 3, 5, 6 and 7 applies
 pub record Mendable (rows cols : ℕ) (grid counts : List ℕ) (place code : ℕ) : Type 0 where

@@ -6,14 +6,11 @@ use mathlib.Core.Path.{_≡_, refl, sym, _∙_}
 use Prim.Native.Nat.{ℕ, _*_}
 use lib.Dec.{eqb}
 use lib.ListN.{length, getD, length-set}
-use lib.Seq.{ext-getD}
 use Rattle.promise.specs.Links.{AtMostOne}
 use Rattle.promise.specs.Reply.{Reply}
 use Rattle.promise.specs.Reply.Reply.{reply}
 use Rattle.promise.proofs.One.{unless-one, unless-one-met, unless-all-one, unless-some-one, one-value}
-use Rattle.flow.proofs.Loop.{first-loop-one}
-use Rattle.sheet.specs.Sheet.{SheetCounts, LoopIn}
-use Rattle.sheet.proofs.Passes.{sheet-counts-unique}
+use Rattle.sheet.proofs.Unique.{loop-one, counts-one}
 use Rattle.mend.specs.Mend.{MendPromise, Mended, changed, mendReply, ends}
 use Rattle.mend.specs.declared.MendReply.{MendReply}
 use Rattle.mend.specs.declared.MendReply.the-variants.{Done, Shape, Length, Code, Count, Place, NewCode, Loop}
@@ -45,18 +42,6 @@ pub record Answer : Type 0 where
   pub answer : MendReply
   pub grid-after : List ℕ
   pub counts-after : List ℕ
-
--- there is one first loop at most
-loop-one : (rows cols : ℕ) (grid : List ℕ) → AtMostOne (LoopIn rows cols grid)
-loop-one rows cols grid v w a b =
-    let (place, len) = first-loop-one a b in
-    λ i. record { place = place i; len = len i }
-
--- the counts of a grid are determined by equation 1
-pub counts-one : (rows cols : ℕ) (grid c d : List ℕ) → length grid ≡ rows * cols → length c ≡ rows * cols → length d ≡ rows * cols
-    → SheetCounts rows cols grid c → SheetCounts rows cols grid d → c ≡ d
-counts-one rows cols grid c d long lc ld a b =
-    ext-getD 0 c d (lc ∙ sym ld) (λ q h. sheet-counts-unique rows cols grid long c d a b q (rw lc at h))
 
 mended-one : (rows cols : ℕ) (grid : List ℕ) (place code : ℕ) → length grid ≡ rows * cols → AtMostOne (Mended rows cols grid place code)
 mended-one rows cols grid place code long e f a b =

@@ -12,3 +12,4 @@ pub mod Gather
 pub mod Passes
 pub mod Given
 pub mod Change
+pub mod Unique
