@@ -1,0 +1,26 @@
+-- `show::write_one` meets its contract: an item, then a newline.
+-- Assumes nothing.
+use denote.Ref.{now}
+use native.Mathlib.Omega.{arith}
+use Rattle.show.proofs.Wrote.{wrote-then, wrote-long, wrote-is, decimal-20, item-long, lines-most}
+use borrow.Author.Needs.{needs}
+use Rattle.show.proofs.write_one.Statement.{statement}
+use Rattle.show.proofs.write_one.Tie as tie
+
+write-item-requires : tie.Need-write-item-requires
+write-item-requires c κs = search needs
+
+put-requires : tie.Need-put-requires
+put-requires c κs =
+    omega (arith, c .before .before .before .write-item .ensures .next-is, wrote-long (c .before .before .before .write-item .ensures), item-long (now (c .before .before .before .before .before .before .before .args .word)) (c .before .before .before .before .before .before .before .args .n) (c .before .before .before .before .before .before .before .fits .n .fits), c .before .before .before .before .before .before .before .pre)
+
+same-length : tie.Need-same-length
+same-length c =
+    wrote-long (wrote-then (c .before .before .before .before .before .before .write-item .ensures) (c .before .before .put .ensures))
+
+returns : tie.Need-returns
+returns c =
+    wrote-then (c .before .before .before .before .before .before .write-item .ensures) (c .before .before .put .ensures)
+
+pub write-one-spec : {M : Type 1} → statement M
+write-one-spec = tie.close (tie.spec write-item-requires put-requires same-length returns)
