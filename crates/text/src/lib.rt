@@ -1,6 +1,6 @@
 // Reading the text of the count program: a line of rows and columns, then one line of codes per row.
 ghost use mathlib.Core.Path.{_≡_};
-ghost use Prim.Native.Nat.{_*_, _≤_};
+ghost use Prim.Native.Nat.{_*_, _<_, _≤_};
 ghost use lib.ListN.{length};
 ghost use Rattle.text.specs.Read.{Reads, Digit, endOf, turn, kept, fits, ReadsBody, ReadsFirst, Parses};
 use sheet::shape::is_within;
@@ -14,6 +14,7 @@ pub enum Number {
     Stop(usize),
 }
 
+// A byte as a number.
 fn wide(b: u8) -> usize
     ensures { λ r. ⌜ r ≡ b ⌝ }
 {
@@ -83,14 +84,22 @@ pub fn turned(c: usize, right: usize) -> usize
     right - 1
 }
 
+// A code that a byte holds, as a byte.
+fn narrow(code: usize) -> u8
+    requires { ⌜ code < 256 ⌝ }
+    ensures { λ r. ⌜ r ≡ code ⌝ }
+{
+    code as u8
+}
+
 // A code as the grid keeps it: one above 255 as another bad code.
 fn keep(code: usize) -> u8
     ensures { λ r. ⌜ r ≡ kept code ⌝ }
 {
     if code < 256 {
-        return code as u8;
+        return narrow(code);
     }
-    3
+    narrow(3)
 }
 
 // The lines of codes are whole, or where they stop.
@@ -187,7 +196,10 @@ pub fn parse(text: &[u8], grid: &mut [u8]) -> Text
             }
             let rest = &text[next..];
             match read_body(rest, rows, cols, grid) {
-                Body::Broken(k) => Text::Malformed(next + k),
+                Body::Broken(k) => {
+                    let place = next + k;
+                    Text::Malformed(place)
+                }
                 Body::Whole => Text::Parsed { rows, cols },
             }
         }

@@ -53,8 +53,8 @@ read-body-requires c κs =
 enum-known-k-2 : tie.Need-enum-known-k-2
 enum-known-k-2 c = search needs
 
-add-t20 : tie.Need-add-t20
-add-t20 c =
+add-place : tie.Need-add-place
+add-place c =
     let b = c .before .before .before .before .before in
     let e = b .before .before .before in
     let a = e .before .before .before in
@@ -114,7 +114,7 @@ parse-spec =
     part-rest-end
     read-body-requires
     enum-known-k-2
-    add-t20
+    add-place
     enum-told
     returns-2
     same-length
