@@ -27,13 +27,17 @@ same-length-3 c = search needs
 
 returns : tie.Need-returns
 returns c =
-    let w = c .before .before .before .before .before .before .before .before .before .before .before .before .before .before .write-answer .ensures in
+    let cleared-counts = c .before .before in
+    let cleared-grid = cleared-counts .before .before .before .before in
+    let counts = cleared-grid .before .before .before .before .before in
+    let grid = counts .before .before in
+    let w = grid .before .write-answer .ensures in
     record {
       said = w .0;
       promised = w .1;
       written = w .2;
-      grid-cleared = c .before .before .before .before .before .before .clear-grid .ensures ∙ ap (λ (n : ℕ). replicate n 0) (c .before .before .before .before .before .before .before .before .before .before .before .before .before .grid .given);
-      counts-cleared = c .before .before .clear .ensures ∙ ap (λ (n : ℕ). replicate n 0) (c .before .before .before .before .before .before .before .before .before .before .before .counts .given);
+      grid-cleared = cleared-grid .clear-grid .ensures ∙ ap (λ (n : ℕ). replicate n 0) (grid .grid .given);
+      counts-cleared = cleared-counts .clear .ensures ∙ ap (λ (n : ℕ). replicate n 0) (counts .counts .given);
     }
 
 pub answer-spec : {M : Type 1} → statement M

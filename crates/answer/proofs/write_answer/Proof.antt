@@ -101,7 +101,8 @@ same-length-2 c = search needs
 
 returns : tie.Need-returns
 returns c =
-    writes-malformed _ [] [] _ _ _ _ (rw (c .before .before .before .before .before .k .given .1) at (c .before .before .before .before .before .before .before .before .before .parse .ensures)) (c .before .before .write-refusal-at .ensures)
+    let k = c .before .before .before .before .before in
+    writes-malformed _ [] [] _ _ _ _ (rw (k .k .given .1) at (k .before .before .before .before .parse .ensures)) (c .before .before .write-refusal-at .ensures)
 
 same-length-3 : tie.Need-same-length-3
 same-length-3 c = search needs
@@ -111,7 +112,8 @@ same-length-4 c = search needs
 
 returns-2 : tie.Need-returns-2
 returns-2 c =
-    writes-shape _ [] [] _ _ _ (rw (c .before .before .before .before .enum-told .given .1) at (c .before .before .before .before .before .before .before .before .parse .ensures)) (c .before .before .write-refusal .ensures)
+    let told = c .before .before .before .before in
+    writes-shape _ [] [] _ _ _ (rw (told .enum-told .given .1) at (told .before .before .before .before .parse .ensures)) (c .before .before .write-refusal .ensures)
 
 same-length-5 : tie.Need-same-length-5
 same-length-5 c = search needs

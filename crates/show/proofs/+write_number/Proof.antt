@@ -105,7 +105,10 @@ write-number-put-requires-2 : (t : ℕ) → write-number-lts.Need-put-requires-2
   write-number.Post,
 ) (write-number-at t) write-number.Post
 write-number-put-requires-2 t c κs =
-    omega (arith, c .before .before .before .before .before .before .before .before .pre .1, step-long (c .before .before .before .before .before .before .before .before .args .n) (c .before .before .before .before .before .before .if1 .left), wrote-long (c .before .before .before .before .write-number .ensures), c .before .before .before .before .write-number .ensures .next-is)
+    let w = c .before .before .before .before .write-number .ensures in
+    let test = c .before .before .before .before .before .before in
+    let start = test .before .before in
+    omega (arith, start .pre .1, step-long (start .args .n) (test .if1 .left), wrote-long w, w .next-is)
 
 write-number-same-length-2 : (t : ℕ) → write-number-lts.Need-same-length-2 (
   digit-reads.Asked,
@@ -127,7 +130,9 @@ write-number-returns-2 : (t : ℕ) → write-number-lts.Need-returns-2 (
   write-number.Post,
 ) (write-number-at t) write-number.Post
 write-number-returns-2 t c =
-    wrote-is (last-digit _ _ (c .before .before .before .digit2 .ensures) (c .before .before .before .before .before .before .before .before .before .if1 .left)) (wrote-then (c .before .before .before .before .before .before .before .write-number .ensures) (c .before .before .put2 .ensures))
+    let w = c .before .before .before .before .before .before .before .write-number .ensures in
+    let test = c .before .before .before .before .before .before .before .before .before in
+    wrote-is (last-digit _ _ (c .before .before .before .digit2 .ensures) (test .if1 .left)) (wrote-then w (c .before .before .put2 .ensures))
 
 pub +write-number-spec : {M : Type 1} → statement M
 +write-number-spec = close μ-write-number λ t. write-number-lts.spec (

@@ -34,15 +34,23 @@ wide-requires c κs = search needs
 
 write-number-requires : tie.Need-write-number-requires Inv-loop μ-loop
 write-number-requires c κs =
-    rw (c .wide .ensures) (omega (arith, shown-room (c .before .before .before .before .loop .inv .1) (c .before .before .before .loop-test .taken) (grid-room _ _ _ _ _ (c .before .before .before .before .before .before .before .pre .0) (c .before .before .before .before .before .before .before .pre .1) (c .before .before .before .before .before .before .before .pre .2))))
+    let inside = c .before .before .before in
+    let at = inside .before in
+    let start = at .before .before .before in
+    rw (c .wide .ensures) (omega (arith, shown-room (at .loop .inv .1) (inside .loop-test .taken) (grid-room _ _ _ _ _ (start .pre .0) (start .pre .1) (start .pre .2))))
 
 end-of-requires : tie.Need-end-of-requires Inv-loop μ-loop
 end-of-requires c κs = search needs
 
 put-requires : tie.Need-put-requires Inv-loop μ-loop
 put-requires c κs =
-    let w = rw (c .before .before .before .before .before .wide .ensures) at (c .before .before .before .before .write-number .ensures) in
-    omega (arith, shown-room (c .before .before .before .before .before .before .before .before .before .loop .inv .1) (c .before .before .before .before .before .before .before .before .loop-test .taken) (grid-room _ _ _ _ _ (c .before .before .before .before .before .before .before .before .before .before .before .before .pre .0) (c .before .before .before .before .before .before .before .before .before .before .before .before .pre .1) (c .before .before .before .before .before .before .before .before .before .before .before .before .pre .2)), wrote-long w, w .next-is)
+    let write-number = c .before .before .before .before in
+    let wide = write-number .before in
+    let inside = wide .before .before .before in
+    let at = inside .before in
+    let start = at .before .before .before in
+    let w = rw (wide .wide .ensures) at (write-number .write-number .ensures) in
+    omega (arith, shown-room (at .loop .inv .1) (inside .loop-test .taken) (grid-room _ _ _ _ _ (start .pre .0) (start .pre .1) (start .pre .2)), wrote-long w, w .next-is)
 
 turned-requires : tie.Need-turned-requires Inv-loop μ-loop
 turned-requires c κs = search needs
@@ -55,7 +63,13 @@ loop-less c = search needs
 
 loop-again : tie.Need-loop-again Inv-loop μ-loop
 loop-again c =
-    (omega arith, rw (c .turned .ensures) (shown-next (c .before .before .before .before .before .before .before .before .before .before .before .before .before .loop .inv .1) (c .before .before .before .before .before .before .before .before .before .before .before .before .loop-test .taken) _ _ _ _ _ _ (c .before .before .before .before .before .before .before .before .before .wide .ensures) (c .before .before .before .before .end-of .ensures) (c .before .before .before .before .before .before .before .before .write-number .ensures) (c .before .before .before .put .ensures)))
+    let put = c .before .before .before in
+    let end-of = put .before in
+    let write-number = end-of .before .before .before .before in
+    let wide = write-number .before in
+    let inside = wide .before .before .before in
+    let at = inside .before in
+    (omega arith, rw (c .turned .ensures) (shown-next (at .loop .inv .1) (inside .loop-test .taken) _ _ _ _ _ _ (wide .wide .ensures) (end-of .end-of .ensures) (write-number .write-number .ensures) (put .put .ensures)))
 
 same-length : tie.Need-same-length Inv-loop μ-loop
 same-length c =
@@ -63,7 +77,8 @@ same-length c =
 
 returns : tie.Need-returns Inv-loop μ-loop
 returns c =
-    wrote-is (flat-rows _ _ _ (c .before .before .before .before .pre .0) (c .before .before .before .before .pre .1)) (shown-all (c .before .loop .inv .1) (c .loop-test .left))
+    let start = c .before .before .before .before in
+    wrote-is (flat-rows _ _ _ (start .pre .0) (start .pre .1)) (shown-all (c .before .loop .inv .1) (c .loop-test .left))
 
 pub write-grid-spec : {M : Type 1} → statement M
 write-grid-spec =

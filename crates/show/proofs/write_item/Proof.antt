@@ -11,15 +11,19 @@ write-word-requires c κs = search needs
 
 write-number-requires : tie.Need-write-number-requires
 write-number-requires c κs =
-    omega (arith, c .before .before .before .write-word .ensures .next-is, wrote-long (c .before .before .before .write-word .ensures), decimal-20 (c .before .before .before .before .before .before .before .args .n) (c .before .before .before .before .before .before .before .fits .n .fits), c .before .before .before .before .before .before .before .pre)
+    let write-word = c .before .before .before in
+    let start = write-word .before .before .before .before in
+    omega (arith, write-word .write-word .ensures .next-is, wrote-long (write-word .write-word .ensures), decimal-20 (start .args .n) (start .fits .n .fits), start .pre)
 
 same-length : tie.Need-same-length
 same-length c =
-    wrote-long (wrote-then (c .before .before .before .before .before .before .write-word .ensures) (c .before .before .write-number .ensures))
+    let write-word = c .before .before .before .before .before .before in
+    wrote-long (wrote-then (write-word .write-word .ensures) (c .before .before .write-number .ensures))
 
 returns : tie.Need-returns
 returns c =
-    wrote-then (c .before .before .before .before .before .before .write-word .ensures) (c .before .before .write-number .ensures)
+    let write-word = c .before .before .before .before .before .before in
+    wrote-then (write-word .write-word .ensures) (c .before .before .write-number .ensures)
 
 pub write-item-spec : {M : Type 1} → statement M
 write-item-spec =

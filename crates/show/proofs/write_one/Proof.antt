@@ -12,15 +12,19 @@ write-item-requires c κs = search needs
 
 put-requires : tie.Need-put-requires
 put-requires c κs =
-    omega (arith, c .before .before .before .write-item .ensures .next-is, wrote-long (c .before .before .before .write-item .ensures), item-long (now (c .before .before .before .before .before .before .before .args .word)) (c .before .before .before .before .before .before .before .args .n) (c .before .before .before .before .before .before .before .fits .n .fits), c .before .before .before .before .before .before .before .pre)
+    let write-item = c .before .before .before in
+    let start = write-item .before .before .before .before in
+    omega (arith, write-item .write-item .ensures .next-is, wrote-long (write-item .write-item .ensures), item-long (now (start .args .word)) (start .args .n) (start .fits .n .fits), start .pre)
 
 same-length : tie.Need-same-length
 same-length c =
-    wrote-long (wrote-then (c .before .before .before .before .before .before .write-item .ensures) (c .before .before .put .ensures))
+    let write-item = c .before .before .before .before .before .before in
+    wrote-long (wrote-then (write-item .write-item .ensures) (c .before .before .put .ensures))
 
 returns : tie.Need-returns
 returns c =
-    wrote-then (c .before .before .before .before .before .before .write-item .ensures) (c .before .before .put .ensures)
+    let write-item = c .before .before .before .before .before .before in
+    wrote-then (write-item .write-item .ensures) (c .before .before .put .ensures)
 
 pub write-one-spec : {M : Type 1} → statement M
 write-one-spec = tie.close (tie.spec write-item-requires put-requires same-length returns)

@@ -17,15 +17,20 @@ write-item-requires c κs = search needs
 
 write-two-requires : tie.Need-write-two-requires
 write-two-requires c κs =
-    omega (arith, c .before .before .before .write-item .ensures .next-is, wrote-long (c .before .before .before .write-item .ensures), item-long (now (c .before .before .before .before .before .before .before .before .before .args .word)) (c .before .before .before .before .before .before .before .before .before .args .n) (c .before .before .before .before .before .before .before .before .before .fits .n .fits), c .before .before .before .before .before .before .before .before .before .pre)
+    let write-item = c .before .before .before in
+    let start = write-item .before .before .before .before .before .before in
+    omega (arith, write-item .write-item .ensures .next-is, wrote-long (write-item .write-item .ensures), item-long (now (start .args .word)) (start .args .n) (start .fits .n .fits), start .pre)
 
 same-length : tie.Need-same-length
 same-length c =
-    wrote-long (wrote-then (c .before .before .before .before .before .before .write-item .ensures) (c .before .before .write-two .ensures))
+    let write-item = c .before .before .before .before .before .before in
+    wrote-long (wrote-then (write-item .write-item .ensures) (c .before .before .write-two .ensures))
 
 returns : tie.Need-returns
 returns c =
-    wrote-is (three-parts (now (c .before .before .before .before .before .before .before .before .before .before .before .before .args .word) ++ decimal (c .before .before .before .before .before .before .before .before .before .before .before .before .args .n)) (now (c .before .before .before .before .before .before .before .before .before .before .before .before .args .other) ++ decimal (c .before .before .before .before .before .before .before .before .before .before .before .before .args .m)) (now (c .before .before .before .before .before .before .before .before .before .before .before .before .args .third) ++ decimal (c .before .before .before .before .before .before .before .before .before .before .before .before .args .k)) (10 ∷ [])) (wrote-then (c .before .before .before .before .before .before .write-item .ensures) (c .before .before .write-two .ensures))
+    let write-item = c .before .before .before .before .before .before in
+    let start = write-item .before .before .before .before .before .before in
+    wrote-is (three-parts (now (start .args .word) ++ decimal (start .args .n)) (now (start .args .other) ++ decimal (start .args .m)) (now (start .args .third) ++ decimal (start .args .k)) (10 ∷ [])) (wrote-then (write-item .write-item .ensures) (c .before .before .write-two .ensures))
 
 pub write-three-spec : {M : Type 1} → statement M
 write-three-spec = tie.close (tie.spec write-item-requires write-two-requires same-length returns)

@@ -12,19 +12,28 @@ write-item-requires c κs = search needs
 
 write-item-requires-2 : tie.Need-write-item-requires-2
 write-item-requires-2 c κs =
-    omega (arith, c .before .before .before .write-item .ensures .next-is, wrote-long (c .before .before .before .write-item .ensures), item-long (now (c .before .before .before .before .before .before .before .before .args .word)) (c .before .before .before .before .before .before .before .before .args .n) (c .before .before .before .before .before .before .before .before .fits .n .fits), c .before .before .before .before .before .before .before .before .pre)
+    let write-item = c .before .before .before in
+    let start = write-item .before .before .before .before .before in
+    omega (arith, write-item .write-item .ensures .next-is, wrote-long (write-item .write-item .ensures), item-long (now (start .args .word)) (start .args .n) (start .fits .n .fits), start .pre)
 
 put-requires : tie.Need-put-requires
 put-requires c κs =
-    omega (arith, c .before .before .before .before .before .before .before .write-item .ensures .next-is, wrote-long (c .before .before .before .before .before .before .before .write-item .ensures), c .before .before .before .write-item2 .ensures .next-is, wrote-long (c .before .before .before .write-item2 .ensures), item-long (now (c .before .before .before .before .before .before .before .before .before .before .before .before .args .word)) (c .before .before .before .before .before .before .before .before .before .before .before .before .args .n) (c .before .before .before .before .before .before .before .before .before .before .before .before .fits .n .fits), item-long (now (c .before .before .before .before .before .before .before .before .before .before .before .before .args .other)) (c .before .before .before .before .before .before .before .before .before .before .before .before .args .m) (c .before .before .before .before .before .before .before .before .before .before .before .before .fits .m .fits), c .before .before .before .before .before .before .before .before .before .before .before .before .pre)
+    let write-item2 = c .before .before .before in
+    let write-item = write-item2 .before .before .before .before in
+    let start = write-item .before .before .before .before .before in
+    omega (arith, write-item .write-item .ensures .next-is, wrote-long (write-item .write-item .ensures), write-item2 .write-item2 .ensures .next-is, wrote-long (write-item2 .write-item2 .ensures), item-long (now (start .args .word)) (start .args .n) (start .fits .n .fits), item-long (now (start .args .other)) (start .args .m) (start .fits .m .fits), start .pre)
 
 same-length : tie.Need-same-length
 same-length c =
-    wrote-long (wrote-then (wrote-then (c .before .before .before .before .before .before .before .before .before .before .write-item .ensures) (c .before .before .before .before .before .before .write-item2 .ensures)) (c .before .before .put .ensures))
+    let write-item2 = c .before .before .before .before .before .before in
+    let write-item = write-item2 .before .before .before .before in
+    wrote-long (wrote-then (wrote-then (write-item .write-item .ensures) (write-item2 .write-item2 .ensures)) (c .before .before .put .ensures))
 
 returns : tie.Need-returns
 returns c =
-    wrote-then (wrote-then (c .before .before .before .before .before .before .before .before .before .before .write-item .ensures) (c .before .before .before .before .before .before .write-item2 .ensures)) (c .before .before .put .ensures)
+    let write-item2 = c .before .before .before .before .before .before in
+    let write-item = write-item2 .before .before .before .before in
+    wrote-then (wrote-then (write-item .write-item .ensures) (write-item2 .write-item2 .ensures)) (c .before .before .put .ensures)
 
 pub write-two-spec : {M : Type 1} → statement M
 write-two-spec =

@@ -36,12 +36,18 @@ enum-known-k c = search needs
 
 same-length : tie.Need-same-length Inv-loop μ-loop
 same-length c =
-    reached-long (c .before .before .before .before .before .before .loop .inv .1) (omega arith)
+    let at = c .before .before .before .before .before .before in
+    reached-long (at .loop .inv .1) (omega arith)
 
 returns : tie.Need-returns Inv-loop μ-loop
 returns c =
-    let told = rw (c .before .k .given .1) at (c .before .before .before .read-number .ensures) in
-    reached-stuck _ _ (c .before .before .before .before .before .before .before .before .before .pre .0) (c .before .before .before .before .before .before .loop .inv .1) _ (c .before .before .before .before .before .loop-test .taken) (told .0) (rw (c .before .before .before .before .end-of .ensures) at (told .1))
+    let read-number = c .before .before .before in
+    let end-of = read-number .before in
+    let inside = end-of .before in
+    let at = inside .before in
+    let start = at .before .before .before in
+    let told = rw (c .before .k .given .1) at (read-number .read-number .ensures) in
+    reached-stuck _ _ (start .pre .0) (at .loop .inv .1) _ (inside .loop-test .taken) (told .0) (rw (end-of .end-of .ensures) at (told .1))
 
 enum-known-value : tie.Need-enum-known-value Inv-loop μ-loop
 enum-known-value c = search needs
@@ -51,7 +57,8 @@ keep-requires c κs = search needs
 
 slice-write-grid : tie.Need-slice-write-grid Inv-loop μ-loop
 slice-write-grid c =
-    omega (arith, reached-long (c .before .before .before .before .before .before .before .loop .inv .1) (omega arith))
+    let at = c .before .before .before .before .before .before .before in
+    omega (arith, reached-long (at .loop .inv .1) (omega arith))
 
 turned-requires : tie.Need-turned-requires Inv-loop μ-loop
 turned-requires c κs = search needs
@@ -64,8 +71,12 @@ loop-less c = search needs
 
 loop-again : tie.Need-loop-again Inv-loop μ-loop
 loop-again c =
-    let told = rw (c .before .before .before .value .given .1) at (c .before .before .before .before .before .read-number .ensures) in
-    (omega arith, rw (c .before .keep .ensures, c .turned .ensures) (reached-more _ _ (c .before .before .before .before .before .before .before .before .loop .inv .1) (omega arith) (told .0) (told .1) (rw (c .before .before .before .before .before .before .end-of .ensures) at (told .2))))
+    let value = c .before .before .before in
+    let read-number = value .before .before in
+    let end-of = read-number .before in
+    let at = end-of .before .before in
+    let told = rw (value .value .given .1) at (read-number .read-number .ensures) in
+    (omega arith, rw (c .before .keep .ensures, c .turned .ensures) (reached-more _ _ (at .loop .inv .1) (omega arith) (told .0) (told .1) (rw (end-of .end-of .ensures) at (told .2))))
 
 same-length-2 : tie.Need-same-length-2 Inv-loop μ-loop
 same-length-2 c =
@@ -73,7 +84,8 @@ same-length-2 c =
 
 returns-2 : tie.Need-returns-2 Inv-loop μ-loop
 returns-2 c =
-    reached-extra _ _ (c .before .before .before .before .before .pre .0) (c .before .before .loop .inv .1) (omega arith) (c .if1 .taken)
+    let start = c .before .before .before .before .before in
+    reached-extra _ _ (start .pre .0) (c .before .before .loop .inv .1) (omega arith) (c .if1 .taken)
 
 same-length-3 : tie.Need-same-length-3 Inv-loop μ-loop
 same-length-3 c =
@@ -81,7 +93,8 @@ same-length-3 c =
 
 returns-3 : tie.Need-returns-3 Inv-loop μ-loop
 returns-3 c =
-    reached-whole _ _ (c .before .before .before .before .before .pre .0) (c .before .before .loop .inv .1) (omega arith) (c .if1 .left)
+    let start = c .before .before .before .before .before in
+    reached-whole _ _ (start .pre .0) (c .before .before .loop .inv .1) (omega arith) (c .if1 .left)
 
 pub read-body-spec : {M : Type 1} → statement M
 read-body-spec =

@@ -17,7 +17,8 @@ enum-known-value c = search needs
 
 read-number-requires-2 : tie.Need-read-number-requires-2
 read-number-requires-2 c κs =
-    let first = rw (c .before .value .given .1) at (c .before .before .before .read-number .ensures) in
+    let read-number = c .before .before .before in
+    let first = rw (c .before .value .given .1) at (read-number .read-number .ensures) in
     (first .1, λ d. omega arith)
 
 enum-known-k-2 : tie.Need-enum-known-k-2
@@ -28,20 +29,27 @@ enum-known-value-2 c = search needs
 
 returns : tie.Need-returns
 returns c =
-    let told = rw (c .before .k .given .1) at (c .before .before .before .read-number .ensures) in
+    let read-number = c .before .before .before in
+    let told = rw (c .before .k .given .1) at (read-number .read-number .ensures) in
     first-rows _ _ (told .1)
 
 returns-2 : tie.Need-returns-2
 returns-2 c =
-    let first = rw (c .before .before .before .before .before .value .given .1) at (c .before .before .before .before .before .before .before .read-number .ensures) in
-    let told = rw (c .before .k2 .given .1) at (c .before .before .before .read-number2 .ensures) in
+    let read-number2 = c .before .before .before in
+    let value = read-number2 .before .before in
+    let read-number = value .before .before in
+    let first = rw (value .value .given .1) at (read-number .read-number .ensures) in
+    let told = rw (c .before .k2 .given .1) at (read-number2 .read-number2 .ensures) in
     first-cols _ _ _ _ (first .0) (first .1) (first .2) (told .0) (told .1)
 
 returns-3 : tie.Need-returns-3
 returns-3 c =
-    let first = rw (c .before .before .before .before .before .value .given .1) at (c .before .before .before .before .before .before .before .read-number .ensures) in
-    let told = rw (c .before .value2 .given .1) at (c .before .before .before .read-number2 .ensures) in
-    (told .1, opens-read _ _ _ (c .before .before .before .before .before .value .given .0 .1 .0) (c .before .value2 .given .0 .1 .0) (first .0) (told .0) (first .2) (told .2))
+    let read-number2 = c .before .before .before in
+    let value = read-number2 .before .before in
+    let read-number = value .before .before in
+    let first = rw (value .value .given .1) at (read-number .read-number .ensures) in
+    let told = rw (c .before .value2 .given .1) at (read-number2 .read-number2 .ensures) in
+    (told .1, opens-read _ _ _ (value .value .given .0 .1 .0) (c .before .value2 .given .0 .1 .0) (first .0) (told .0) (first .2) (told .2))
 
 pub read-first-spec : {M : Type 1} → statement M
 read-first-spec =

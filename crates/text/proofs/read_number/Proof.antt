@@ -23,11 +23,14 @@ shared-slice-read-first c = search needs
 
 returns-2 : tie.Need-returns-2 Inv-loop μ-loop
 returns-2 c =
-    (omega arith, stuck-first _ _ _ _ (c .before .before .if1 .left) (omega arith) (c .before .before .before .before .pre .1) (λ d. omega arith))
+    let start = c .before .before .before .before in
+    (omega arith, stuck-first _ _ _ _ (c .before .before .if1 .left) (omega arith) (start .pre .1) (λ d. omega arith))
 
 returns-3 : tie.Need-returns-3 Inv-loop μ-loop
 returns-3 c =
-    (omega arith, stuck-first _ _ _ _ (c .before .before .before .if1 .left) (omega arith) (c .before .before .before .before .before .pre .1) (λ d. omega arith))
+    let test1 = c .before .before .before in
+    let start = test1 .before .before in
+    (omega arith, stuck-first _ _ _ _ (test1 .if1 .left) (omega arith) (start .pre .1) (λ d. omega arith))
 
 wide-requires : tie.Need-wide-requires Inv-loop μ-loop
 wide-requires c κs = search needs
@@ -37,7 +40,8 @@ add-i c = search needs
 
 loop-holds : tie.Need-loop-holds Inv-loop μ-loop
 loop-holds c =
-    so-far-one _ _ _ (c .before .before .before .before .if1 .left) (record { low = omega arith; high = omega arith }) (c .wide .ensures)
+    let test1 = c .before .before .before .before in
+    so-far-one _ _ _ (test1 .if1 .left) (record { low = omega arith; high = omega arith }) (c .wide .ensures)
 
 shared-slice-read-b : tie.Need-shared-slice-read-b Inv-loop μ-loop
 shared-slice-read-b c = search needs
@@ -52,23 +56,37 @@ returns-4 c =
 
 returns-5 : tie.Need-returns-5 Inv-loop μ-loop
 returns-5 c =
-    let s = c .before .before .before .before .loop .inv in
-    (s .ahead, so-far-stuck _ s (c .before .before .before .before .before .before .before .before .before .before .before .pre .1) (c .before .before .before .loop-test .taken) (c .before .if4 .left) (λ d l h. omega arith))
+    let inside = c .before .before .before in
+    let at = inside .before in
+    let start = at .before .before .before .before .before .before .before in
+    let s = at .loop .inv in
+    (s .ahead, so-far-stuck _ s (start .pre .1) (inside .loop-test .taken) (c .before .if4 .left) (λ d l h. omega arith))
 
 returns-6 : tie.Need-returns-6 Inv-loop μ-loop
 returns-6 c =
-    let s = c .before .before .before .before .before .loop .inv in
-    (s .ahead, so-far-stuck _ s (c .before .before .before .before .before .before .before .before .before .before .before .before .pre .1) (c .before .before .before .before .loop-test .taken) (c .before .before .if4 .left) (λ d l h. omega arith))
+    let inside = c .before .before .before .before in
+    let at = inside .before in
+    let start = at .before .before .before .before .before .before .before in
+    let s = at .loop .inv in
+    (s .ahead, so-far-stuck _ s (start .pre .1) (inside .loop-test .taken) (c .before .before .if4 .left) (λ d l h. omega arith))
 
 returns-7 : tie.Need-returns-7 Inv-loop μ-loop
 returns-7 c =
-    let s = c .before .before .before .before .before .before .loop .inv in
-    (s .ahead, so-far-stuck _ s (c .before .before .before .before .before .before .before .before .before .before .before .before .before .pre .1) (c .before .before .before .before .before .loop-test .taken) (c .before .before .before .if4 .left) (λ d l h. omega arith))
+    let test4 = c .before .before .before in
+    let inside = test4 .before .before in
+    let at = inside .before in
+    let start = at .before .before .before .before .before .before .before in
+    let s = at .loop .inv in
+    (s .ahead, so-far-stuck _ s (start .pre .1) (inside .loop-test .taken) (test4 .if4 .left) (λ d l h. omega arith))
 
 returns-8 : tie.Need-returns-8 Inv-loop μ-loop
 returns-8 c =
-    let s = c .before .before .before .before .before .before .before .loop .inv in
-    (s .ahead, so-far-stuck _ s (c .before .before .before .before .before .before .before .before .before .before .before .before .before .before .pre .1) (c .before .before .before .before .before .before .loop-test .taken) (c .before .before .before .before .if4 .left) (λ d l h. omega arith))
+    let test4 = c .before .before .before .before in
+    let inside = test4 .before .before in
+    let at = inside .before in
+    let start = at .before .before .before .before .before .before .before in
+    let s = at .loop .inv in
+    (s .ahead, so-far-stuck _ s (start .pre .1) (inside .loop-test .taken) (test4 .if4 .left) (λ d l h. omega arith))
 
 mul-v : tie.Need-mul-v Inv-loop μ-loop
 mul-v c = search needs
@@ -87,8 +105,10 @@ loop-less c = search needs
 
 loop-again : tie.Need-loop-again Inv-loop μ-loop
 loop-again c =
-    let s = c .before .before .before .before .before .before .before .before .loop .inv in
-    so-far-more _ s (c .before .before .before .before .before .before .before .loop-test .taken) (record { low = omega arith; high = omega arith }) (omega arith) (omega arith) (c .wide2 .ensures)
+    let inside = c .before .before .before .before .before .before .before in
+    let at = inside .before in
+    let s = at .loop .inv in
+    so-far-more _ s (inside .loop-test .taken) (record { low = omega arith; high = omega arith }) (omega arith) (omega arith) (c .wide2 .ensures)
 
 returns-9 : tie.Need-returns-9 Inv-loop μ-loop
 returns-9 c =
