@@ -11,6 +11,7 @@ fn told(text: &[u8]) {
 
 // Answers standard input.
 fn input() {
+    io::write_all(1, b"# standard input\n");
     let mut text = [0u8; 20487];
     let n = io::read_full(0, &mut text);
     told(&text[..n]);
@@ -25,18 +26,22 @@ fn sheets() {
     told(b"1 3\n1 255 16\n");
     told(b"3 3\n2 4 8\n1 4 16\n128 4 32\n");
     told(b"2 2\n4 1\n1 64\n");
-    io::write_all(1, b"# 4: sheets E, F, a loop of four cells, two loops\n");
+}
+
+// Sheets with a loop.
+fn loops() {
+    io::write_all(1, b"# 4: sheets E, F, a loop of four, two loops\n");
     told(b"1 2\n1 16\n");
     told(b"1 4\n1 1 1 16\n");
     told(b"2 2\n1 4\n64 16\n");
     told(b"1 5\n1 16 0 1 16\n");
 }
 
-// Codes that are bad.
+// Sheets with a bad code.
 fn codes() {
     io::write_all(
         1,
-        b"# 3: the first bad code, 254, 256, 257, 9999, sheet G\n",
+        b"# 3: a bad code first and later, 254, above 255, sheet G\n",
     );
     told(b"1 3\n1 3 5\n");
     told(b"1 1\n254\n");
@@ -48,36 +53,45 @@ fn codes() {
     told(b"1 3\n1 16 3\n");
 }
 
-// Sides that lie outside the bounds, whatever follows.
+// Sides outside the bounds, whatever follows.
 fn shapes() {
-    io::write_all(1, b"# 1: no rows, no columns, 65 of them, more\n");
+    io::write_all(1, b"# 1: no rows, no columns, 65, more\n");
     told(b"0 1\n");
     told(b"1 0\n\n");
     told(b"65 1\n1\n");
     told(b"1 65\nx");
     told(b"64 65\n");
     told(b"9999 9999\n\n\n");
-    io::write_all(1, b"# within bounds, though nothing follows\n");
+}
+
+// Sides at the bounds.
+fn limits() {
+    io::write_all(1, b"# 64 by 64, and nothing after\n");
     told(b"64 64\n");
 }
 
-// First lines that are malformed.
-fn first_lines() {
-    io::write_all(1, b"# 11 in the first line: cut short\n");
+// First lines cut short.
+fn first_cut_short() {
+    io::write_all(1, b"# 11: a first line cut short\n");
     told(b"");
     told(b"3");
     told(b"3 ");
     told(b"3 3");
-    io::write_all(1, b"# needless zeros, five digits\n");
+}
+
+// Numbers that are none, in the first line.
+fn first_numbers() {
+    io::write_all(1, b"# 11: needless zeros, five digits\n");
     told(b"03 3\n");
     told(b"3 03\n");
     told(b"00 3\n");
     told(b"12345 1\n");
     told(b"1 12345\n");
-    io::write_all(
-        1,
-        b"# other bytes, and none between the numbers but one space\n",
-    );
+}
+
+// Other bytes in the first line.
+fn first_bytes() {
+    io::write_all(1, b"# 11: other bytes\n");
     told(b" 1 1\n");
     told(b"1  1\n");
     told(b"1\t1\n");
@@ -88,24 +102,36 @@ fn first_lines() {
     told(b"1\n1\n");
     told(b"x 1\n");
     told(b"\x00");
+}
+
+// A malformed first line comes before its sides.
+fn eleven_before_one() {
     io::write_all(1, b"# 11 before 1\n");
     told(b"0 x\n");
     told(b"65 1");
     told(b"0 0 \n");
 }
 
-// Lines of codes that are malformed.
-fn bodies() {
-    io::write_all(1, b"# 11 after the first line: cut short\n");
+// Lines of codes cut short.
+fn body_cut_short() {
+    io::write_all(1, b"# 11: lines of codes cut short\n");
     told(b"1 1\n");
     told(b"1 1\n1");
     told(b"1 2\n1 ");
     told(b"2 1\n1\n");
-    io::write_all(1, b"# needless zeros, five digits\n");
+}
+
+// Numbers that are none, in a line of codes.
+fn body_numbers() {
+    io::write_all(1, b"# 11: needless zeros, five digits\n");
     told(b"1 1\n00\n");
     told(b"1 1\n03\n");
     told(b"1 1\n12345\n");
-    io::write_all(1, b"# numbers too few, too many, other bytes\n");
+}
+
+// Other bytes in a line of codes.
+fn body_bytes() {
+    io::write_all(1, b"# 11: too few, too many, other bytes\n");
     told(b"1 2\n1\n2\n");
     told(b"2 1\n1 2\n");
     told(b"1 1\n\n1\n");
@@ -113,10 +139,18 @@ fn bodies() {
     told(b"1 1\n1\r\n");
     told(b"1 1\n1 \n");
     told(b"1 2\n1,1\n");
-    io::write_all(1, b"# a byte too many\n");
+}
+
+// A byte after the last line.
+fn byte_too_many() {
+    io::write_all(1, b"# 11: a byte too many\n");
     told(b"1 1\n1\n\n");
     told(b"1 1\n1\n1\n");
     told(b"1 1\n1\n\x00");
+}
+
+// What is malformed comes before a bad code.
+fn eleven_before_three() {
     io::write_all(1, b"# 11 before 3\n");
     told(b"1 2\n3 x\n");
     told(b"1 1\n3");
@@ -126,10 +160,18 @@ fn bodies() {
 
 fn main() {
     sheets();
+    loops();
     codes();
     shapes();
-    first_lines();
-    bodies();
-    io::write_all(1, b"# standard input\n");
+    limits();
+    first_cut_short();
+    first_numbers();
+    first_bytes();
+    eleven_before_one();
+    body_cut_short();
+    body_numbers();
+    body_bytes();
+    byte_too_many();
+    eleven_before_three();
     input();
 }
