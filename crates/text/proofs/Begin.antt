@@ -9,8 +9,8 @@ use mathlib.Core.Bool.{true, false, false≢true}
 use mathlib.Core.Logic.{inl, inr}
 use lib.Seq.{take-all}
 use lib.ListN.{length, take, drop, length-append, length-drop}
-use Rattle.text.specs.Text.{decimal, line, lines, Short, Opens, Holds, StopsAt}
-use Rattle.text.specs.Read.{Digit, Stuck, fits, Opening, ProperOf, Rows}
+use Rattle.text.specs.Text.{decimal, line, lines, Short, Opens, Holds, StopsAt, Digit}
+use Rattle.text.specs.Read.{Stuck, fits, Opening, ProperOf, Rows}
 use Rattle.flow.proofs.Sum.{test}
 use Rattle.sheet.specs.Leaves.{within}
 use Rattle.sheet.specs.Shape.{Within}

@@ -9,8 +9,8 @@ use native.Mathlib.Numerals.{add-one}
 use native.Mathlib.Nat.{suc-mul}
 use lib.ListN.{length, getD, take, drop, set, length-append, length-drop, length-map, drop-of-length-le}
 use lib.Seq.{drop-cons, set-at}
-use Rattle.text.specs.Text.{decimal, line, lines, Each, Short, StopsAt}
-use Rattle.text.specs.Read.{Digit, Stuck, Rows, endOf, turn, kept}
+use Rattle.text.specs.Text.{decimal, line, lines, Each, Short, StopsAt, Digit}
+use Rattle.text.specs.Read.{Stuck, Rows, endOf, turn, kept}
 use Rattle.text.proofs.Decimal.{decimal-some, each-append}
 use Rattle.text.proofs.Scan.{number-same, next-byte}
 use Rattle.text.proofs.Stops.{stops-byte, stuck-stops, stops-same}

@@ -50,11 +50,6 @@ turn c (suc right) = right
 unfoldable pub fits : (rows cols : ℕ) → Bool
 fits rows cols = within rows 64 && within cols 64
 
--- a byte that is a decimal digit
-pub record Digit (b : ℕ) : Type 0 where
-  pub low : 48 ≤ b
-  pub high : b ≤ 57
-
 -- n bytes of r begin a number, and with the byte after them no number that is followed by `end` goes on
 pub record Stuck (end : ℕ) (r : List ℕ) (n : ℕ) : Type 0 where
   pub got : List ℕ

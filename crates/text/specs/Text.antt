@@ -6,7 +6,7 @@ use mathlib.Core.List.{List, [], _∷_, _++_}
 use mathlib.Core.Path.{_≡_}
 use Prim.Native.Nat.{ℕ, zero, suc, _+_, _*_, _/_, _%_, _<_, _≤_}
 use lib.Dec.{ltb}
-use lib.ListN.{length, take, drop}
+use lib.ListN.{length, take, drop, getD}
 
 -- ---- numbers and lines
 
@@ -39,9 +39,21 @@ abbrev pub Each : (ℕ → Type 0) → List ℕ → Type 0
 Each P [] = Unit {0}
 Each P (x ∷ xs) = P x × Each P xs
 
--- a number has 1 to 4 digits (theorem numeral: the decimals of such numbers are the runs of 1 to 4 digits with no needless leading zero)
+-- a number that a text may hold: the decimals of 0 to 9999 are, by theorem numeral, the runs of bytes that the paper describes, `Numeral`
 abbrev pub Short : ℕ → Type 0
 Short n = n ≤ 9999
+
+-- a byte that is a decimal digit
+pub record Digit (b : ℕ) : Type 0 where
+  pub low : 48 ≤ b
+  pub high : b ≤ 57
+
+-- a number has 1 to 4 digits, no needless leading zero
+pub record Numeral (s : List ℕ) : Type 0 where
+  pub all-digits : Each Digit s
+  pub some : 1 ≤ length s
+  pub most : length s ≤ 4
+  pub no-needless-zero : getD s 0 0 ≡ 48 → length s ≡ 1
 
 -- the text begins with a line of rows and columns, and then comes `rest`
 pub record Opens (rows cols : ℕ) (rest text : List ℕ) : Type 0 where

@@ -2,7 +2,8 @@
 ghost use mathlib.Core.Path.{_≡_};
 ghost use Prim.Native.Nat.{_*_, _<_, _≤_};
 ghost use lib.ListN.{length};
-ghost use Rattle.text.specs.Read.{Reads, Digit, endOf, turn, kept, fits, ReadsBody, ReadsFirst, Parses};
+ghost use Rattle.text.specs.Text.{Digit};
+ghost use Rattle.text.specs.Read.{Reads, endOf, turn, kept, fits, ReadsBody, ReadsFirst, Parses};
 use sheet::shape::is_within;
 
 // The most rows, and the most columns, of a sheet given as text.
