@@ -28,7 +28,18 @@ kept-large c h = rw (le-ltb c 256 h)
 pub large-bad : (c : ℕ) → 256 ≤ c → isCode c ≡ false
 unfolding isCode isArrow isAbsent lineOf
 large-bad c h =
-    rw (ne-eqb 1 c (λ e. omega arith), ne-eqb 2 c (λ e. omega arith), ne-eqb 4 c (λ e. omega arith), ne-eqb 8 c (λ e. omega arith), ne-eqb 16 c (λ e. omega arith), ne-eqb 32 c (λ e. omega arith), ne-eqb 64 c (λ e. omega arith), ne-eqb 128 c (λ e. omega arith), ne-eqb c 0 (λ e. omega arith), ne-eqb c 255 (λ e. omega arith))
+    rw (
+      ne-eqb 1 c (λ e. omega arith),
+      ne-eqb 2 c (λ e. omega arith),
+      ne-eqb 4 c (λ e. omega arith),
+      ne-eqb 8 c (λ e. omega arith),
+      ne-eqb 16 c (λ e. omega arith),
+      ne-eqb 32 c (λ e. omega arith),
+      ne-eqb 64 c (λ e. omega arith),
+      ne-eqb 128 c (λ e. omega arith),
+      ne-eqb c 0 (λ e. omega arith),
+      ne-eqb c 255 (λ e. omega arith),
+    )
 
 three-bad : isCode 3 ≡ false
 unfolding isCode isArrow isAbsent lineOf

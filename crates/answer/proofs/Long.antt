@@ -24,11 +24,22 @@ use Rattle.answer.specs.Answer.{AnswerPromise}
 flat-short : (c right : ℕ) (xs : List ℕ) → Each Short xs → length (flat c right xs) ≤ 5 * length xs
 flat-short c right [] a = rw (flat-nil c right) (omega arith)
 flat-short c right (x ∷ xs) a =
-    rw (flat-cons c right x xs) (omega (arith, length-append (decimal x) (endOf right ∷ flat c (turn c right) xs), flat-short c (turn c right) xs (a .1), decimal-most 3 x (omega (arith, a .0))))
+    rw (flat-cons c right x xs) (omega (
+      arith,
+      length-append (decimal x) (endOf right ∷ flat c (turn c right) xs),
+      flat-short c (turn c right) xs (a .1),
+      decimal-most 3 x (omega (arith, a .0)),
+    ))
 
 line-long : (rows cols : ℕ) → length (line (rows ∷ cols ∷ [])) ≡ length (decimal rows) + length (decimal cols) + 2
 line-long rows cols =
-    omega (arith, length-append (line (rows ∷ cols ∷ [])) [], ap length (two rows cols []), length-append (decimal rows) (32 ∷ (decimal cols ++ 10 ∷ [])), length-append (decimal cols) (10 ∷ []))
+    omega (
+      arith,
+      length-append (line (rows ∷ cols ∷ [])) [],
+      ap length (two rows cols []),
+      length-append (decimal rows) (32 ∷ (decimal cols ++ 10 ∷ [])),
+      length-append (decimal cols) (10 ∷ []),
+    )
 
 -- no first line has more than 10 bytes
 line-short : (rows cols : ℕ) → Short rows → Short cols → length (line (rows ∷ cols ∷ [])) ≤ 10
@@ -37,7 +48,12 @@ line-short rows cols hr hc = omega (arith, line-long rows cols, decimal-most 3 r
 -- no proper text of sides within bounds has more than 20,486 bytes
 pub holds-long : (rows cols : ℕ) (codes text : List ℕ) → Within 64 rows cols → Holds rows cols codes text → length text ≤ 20486
 holds-long rows cols codes text w h =
-    let body : length (lines rows cols codes) ≤ 5 * (rows * cols) = omega (arith, ap length (flat-rows rows cols codes (w .some-col) (h .codes-long)), flat-short (cols - 1) (cols - 1) codes (h .codes-short), h .codes-long) in
+    let body : length (lines rows cols codes) ≤ 5 * (rows * cols) = omega (
+      arith,
+      ap length (flat-rows rows cols codes (w .some-col) (h .codes-long)),
+      flat-short (cols - 1) (cols - 1) codes (h .codes-short),
+      h .codes-long,
+    ) in
     omega (
       arith,
       ap length (h .opens .reads),

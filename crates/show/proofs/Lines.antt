@@ -12,7 +12,13 @@ use Rattle.show.proofs.Wrote.{item-long}
 pub shape-long : (rows cols : ℕ) → rows < 2 ^ 64 → cols < 2 ^ 64 → length (shapeLine rows cols) ≤ 100
 unfolding word
 shape-long rows cols h k =
-    omega (arith, length-append (item "rows " rows ++ item " cols " cols) (word "\n"), length-append (item "rows " rows) (item " cols " cols), item-long (word "rows ") rows h, item-long (word " cols ") cols k)
+    omega (
+      arith,
+      length-append (item "rows " rows ++ item " cols " cols) (word "\n"),
+      length-append (item "rows " rows) (item " cols " cols),
+      item-long (word "rows ") rows h,
+      item-long (word " cols ") cols k,
+    )
 
 pub refusal-none : (n : ℕ) → word "refused " ++ decimal n ++ (10 ∷ []) ≡ refusal n []
 unfolding word places

@@ -34,7 +34,7 @@ head-long {bytes} {out} {after} {at} w = omega (arith, length-append (take at ou
 
 pub wrote-long : {bytes out after : List ℕ} {at next : ℕ} → Wrote bytes out at after next → length after ≡ length out
 wrote-long {bytes} {out} {after} {at} {next} w =
-    omega (arith, simp (← append-assoc, length-append) at (ap length (w .out-is)), length-append (take at out) bytes, head-long w, length-drop next out, w .room, w .next-is)
+    omega (arith, simp length-append at (ap length (w .out-is)), length-append (take at out) bytes, head-long w, length-drop next out, w .room, w .next-is)
 
 pub wrote-then : {a b out mid after : List ℕ} {at mark next : ℕ} → Wrote a out at mid mark → Wrote b mid mark after next → Wrote (a ++ b) out at after next
 wrote-then {a} {b} {out} {mid} {after} {at} {mark} {next} x y =
@@ -51,7 +51,8 @@ wrote-then {a} {b} {out} {mid} {after} {at} {mark} {next} x y =
 pub wrote-is : {a b out after : List ℕ} {at next : ℕ} → a ≡ b → Wrote a out at after next → Wrote b out at after next
 wrote-is e w = rw e at w
 
-pub wrote-next : (word : List ℕ) (i : ℕ) {out mid : List ℕ} {at : ℕ} → Wrote (take i word) out at mid (at + i) → i < length word → at + i < length out → Wrote (take (i + 1) word) out at (set mid (at + i) (getD word i 0)) (at + (i + 1))
+pub wrote-next : (word : List ℕ) (i : ℕ) {out mid : List ℕ} {at : ℕ} → Wrote (take i word) out at mid (at + i) → i < length word → at + i < length out
+    → Wrote (take (i + 1) word) out at (set mid (at + i) (getD word i 0)) (at + (i + 1))
 wrote-next word i {out} {mid} {at} w h room =
     let e : take i word ++ (getD word i 0 ∷ []) ≡ take (i + 1) word = sym (rw add-one (take-suc word i 0 h)) in
     let far : at + i + 1 ≡ at + (i + 1) = omega arith in
@@ -90,7 +91,8 @@ module _ {c : ℕ} {numbers out after : List ℕ} {at right next q : ℕ} (s : S
   pub shown-room : at + length (flat c c numbers) ≤ length out → next + length (decimal (getD numbers q 0)) + 1 ≤ length after
   shown-room room = omega (arith, simp length-append at (ap length next-number), s .wrote .next-is, wrote-long (s .wrote))
 
-  pub shown-next : (mid last : List ℕ) (v end : ℕ) (mark far : ℕ) → v ≡ getD numbers q 0 → end ≡ endOf right → Wrote (decimal v) after next mid mark → Wrote (end ∷ []) mid mark last far → Shown c numbers out at last (turn c right) far (q + 1)
+  pub shown-next : (mid last : List ℕ) (v end : ℕ) (mark far : ℕ) → v ≡ getD numbers q 0 → end ≡ endOf right → Wrote (decimal v) after next mid mark
+      → Wrote (end ∷ []) mid mark last far → Shown c numbers out at last (turn c right) far (q + 1)
   shown-next mid last v end mark far ev ee x y = record {
     so-far = s .so-far ++ (decimal v ++ end ∷ []);
     wrote = wrote-then (s .wrote) (wrote-then x y);
@@ -101,7 +103,8 @@ pub shown-all : {c : ℕ} {numbers out after : List ℕ} {at right next q : ℕ}
 shown-all {c} {numbers} {right = right} {q = q} s h =
     wrote-is (sym (s .ahead ∙ ap (λ (l : List ℕ). s .so-far ++ l) (ap (λ (l : List ℕ). flat c right l) (drop-of-length-le numbers h) ∙ flat-nil c right) ∙ append-nil (s .so-far))) (s .wrote)
 
-pub grid-room : (rows cols : ℕ) (numbers : List ℕ) (at m : ℕ) → 1 ≤ cols → length numbers ≡ rows * cols → at + length (lines rows cols numbers) ≤ m → at + length (flat (cols - 1) (cols - 1) numbers) ≤ m
+pub grid-room : (rows cols : ℕ) (numbers : List ℕ) (at m : ℕ) → 1 ≤ cols → length numbers ≡ rows * cols → at + length (lines rows cols numbers) ≤ m
+    → at + length (flat (cols - 1) (cols - 1) numbers) ≤ m
 grid-room rows cols numbers at m some long room = rw (flat-rows rows cols numbers some long) room
 
 -- ---- how long numbers and lines are
@@ -115,7 +118,13 @@ item-long w n h = omega (arith, length-append w (decimal n), decimal-20 n h)
 flat-most : (m c right : ℕ) (xs : List ℕ) → ((i : ℕ) → getD xs i 0 < 10 ^ suc m) → length (flat c right xs) ≤ (m + 2) * length xs
 flat-most m c right [] h = rw (flat-nil c right) (omega arith)
 flat-most m c right (x ∷ xs) h =
-    rw (flat-cons c right x xs) (omega (arith, mul-suc (m + 2) (length xs), length-append (decimal x) (endOf right ∷ flat c (turn c right) xs), flat-most m c (turn c right) xs (λ i. h (suc i)), decimal-most m x (h 0)))
+    rw (flat-cons c right x xs) (omega (
+      arith,
+      mul-suc (m + 2) (length xs),
+      length-append (decimal x) (endOf right ∷ flat c (turn c right) xs),
+      flat-most m c (turn c right) xs (λ i. h (suc i)),
+      decimal-most m x (h 0),
+    ))
 
 -- lines of numbers of at most m + 1 digits
 pub lines-most : (m rows cols : ℕ) (xs : List ℕ) → 1 ≤ cols → length xs ≡ rows * cols → ((i : ℕ) → getD xs i 0 < 10 ^ suc m) → length (lines rows cols xs) ≤ (m + 2) * (rows * cols)

@@ -37,7 +37,8 @@ opens-one {rows} {cols} {rows′} {cols′} {rest} {rest′} a b =
     let second = number-same 10 cols cols′ rest rest′ newline-apart (first .1) in
     (first .0, second .0, second .1)
 
-pub opens-read : (text : List ℕ) (rows cols at next : ℕ) → Short rows → Short cols → text ≡ decimal rows ++ 32 ∷ drop at text → drop at text ≡ decimal cols ++ 10 ∷ drop next text → Opens rows cols (drop next text) text
+pub opens-read : (text : List ℕ) (rows cols at next : ℕ) → Short rows → Short cols → text ≡ decimal rows ++ 32 ∷ drop at text
+    → drop at text ≡ decimal cols ++ 10 ∷ drop next text → Opens rows cols (drop next text) text
 opens-read text rows cols at next hr hc e f = record { rows-short = hr; cols-short = hc; reads = e ∙ ap (λ (s : List ℕ). decimal rows ++ 32 ∷ s) f ∙ sym (two rows cols (drop next text)) }
 
 pub first-rows : (text : List ℕ) (k : ℕ) → Stuck 32 text (k - 0) → StopsAt Opening text k
@@ -47,7 +48,8 @@ first-rows text k s =
     (λ t h. (h .0, decimal (h .1) ++ 10 ∷ h .2, h .3 .rows-short, h .3 .reads ∙ two (h .0) (h .1) (h .2)))
     text text (k - 0) k s refl (omega arith)
 
-pub first-cols : (text : List ℕ) (rows at k : ℕ) → Short rows → at ≤ length text → text ≡ decimal rows ++ 32 ∷ drop at text → at ≤ k → Stuck 10 (drop at text) (k - at) → StopsAt Opening text k
+pub first-cols : (text : List ℕ) (rows at k : ℕ) → Short rows → at ≤ length text → text ≡ decimal rows ++ 32 ∷ drop at text → at ≤ k
+    → Stuck 10 (drop at text) (k - at) → StopsAt Opening text k
 first-cols text rows at k short inside e past s =
     stuck-stops Opening 10 (decimal rows ++ 32 ∷ []) newline-apart
     (λ v short′. (10 ∷ [], (rows, v, [], record { rows-short = short; cols-short = short′; reads = append-assoc (decimal rows) (32 ∷ []) (decimal v ++ 10 ∷ []) ∙ sym (two rows v []) })))

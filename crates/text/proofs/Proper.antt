@@ -27,7 +27,8 @@ front p more d rest e l =
     rw same at (take-append-drop (length d) p)
 
 -- a front of a first line goes on to a proper text of its sides
-line-goes-on : (rows cols : ℕ) (p more rest : List ℕ) → Short rows → Short cols → p ++ more ≡ line (rows ∷ cols ∷ []) ++ rest → length p ≤ length (line (rows ∷ cols ∷ [])) → GoesOn (ProperOf rows cols) p
+line-goes-on : (rows cols : ℕ) (p more rest : List ℕ) → Short rows → Short cols → p ++ more ≡ line (rows ∷ cols ∷ []) ++ rest
+    → length p ≤ length (line (rows ∷ cols ∷ [])) → GoesOn (ProperOf rows cols) p
 line-goes-on rows cols p more rest hr hc e l =
     let d : List ℕ = line (rows ∷ cols ∷ []) in
     let codes : List ℕ = zeros (rows * cols) in
@@ -76,7 +77,8 @@ first-stops text k h =
     }
 
 -- a proper text that begins as this one does, past its first line, is of its sides
-same-sides : (rows cols : ℕ) (rest text more : List ℕ) (k : ℕ) → Opens rows cols rest text → length (line (rows ∷ cols ∷ [])) ≤ length (take k text) → Proper (take k text ++ more) → ProperOf rows cols (take k text ++ more)
+same-sides : (rows cols : ℕ) (rest text more : List ℕ) (k : ℕ) → Opens rows cols rest text → length (line (rows ∷ cols ∷ [])) ≤ length (take k text)
+    → Proper (take k text ++ more) → ProperOf rows cols (take k text ++ more)
 same-sides rows cols rest text more k o l a =
     let d : List ℕ = line (rows ∷ cols ∷ []) in
     let p = front (take k text) (drop k text) d rest (take-append-drop k text ∙ o .reads) l in

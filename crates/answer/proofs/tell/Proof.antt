@@ -50,8 +50,10 @@ same-length-2 c = search needs
 returns : tie.Need-returns
 unfolding shown
 returns c =
-    let k = c .before .before .before .before .before .before .before .before .before .before in
-    (_, told _ _ _ _ _ (k .before .before .before .before .before .pre) _ (rw (c .before .before .before .before .before .before .land .given .1) at (k .count .ensures)), c .before .before .write-done .ensures)
+    let w = c .before .before in
+    let is = w .before .before .before .before .land .given .1 in
+    let k = w .before .before .before .before .before .before .before .before in
+    (_, told _ _ _ _ _ (k .before .before .before .before .before .pre) _ (rw is at (k .count .ensures)), w .write-done .ensures)
 
 same-length-3 : tie.Need-same-length-3
 same-length-3 c = search needs
@@ -62,8 +64,10 @@ same-length-4 c = search needs
 returns-2 : tie.Need-returns-2
 unfolding shown
 returns-2 c =
-    let k = c .before .before .before .before .before .before .before .before in
-    (_, told _ _ _ _ _ (k .before .before .before .before .before .pre) _ (rw (c .before .before .before .before .enum-told .given .1) at (k .count .ensures)), c .before .before .write-refusal .ensures)
+    let w = c .before .before in
+    let is = w .before .before .enum-told .given .1 in
+    let k = w .before .before .before .before .before .before in
+    (_, told _ _ _ _ _ (k .before .before .before .before .before .pre) _ (rw is at (k .count .ensures)), w .write-refusal .ensures)
 
 same-length-5 : tie.Need-same-length-5
 same-length-5 c = search needs
@@ -74,8 +78,10 @@ same-length-6 c = search needs
 returns-3 : tie.Need-returns-3
 unfolding shown
 returns-3 c =
-    let k = c .before .before .before .before .before .before .before .before in
-    (_, told _ _ _ _ _ (k .before .before .before .before .before .pre) _ (rw (c .before .before .before .before .enum-told2 .given .1) at (k .count .ensures)), c .before .before .write-refusal2 .ensures)
+    let w = c .before .before in
+    let is = w .before .before .enum-told2 .given .1 in
+    let k = w .before .before .before .before .before .before in
+    (_, told _ _ _ _ _ (k .before .before .before .before .before .pre) _ (rw is at (k .count .ensures)), w .write-refusal2 .ensures)
 
 same-length-7 : tie.Need-same-length-7
 same-length-7 c = search needs
@@ -86,8 +92,10 @@ same-length-8 c = search needs
 returns-4 : tie.Need-returns-4
 unfolding shown
 returns-4 c =
-    let k = c .before .before .before .before .before .before .before .before .before in
-    (_, told _ _ _ _ _ (k .before .before .before .before .before .pre) _ (rw (c .before .before .before .before .before .p .given .1) at (k .count .ensures)), c .before .before .write-refusal-at .ensures)
+    let w = c .before .before in
+    let is = w .before .before .before .p .given .1 in
+    let k = w .before .before .before .before .before .before .before in
+    (_, told _ _ _ _ _ (k .before .before .before .before .before .pre) _ (rw is at (k .count .ensures)), w .write-refusal-at .ensures)
 
 same-length-9 : tie.Need-same-length-9
 same-length-9 c = search needs
@@ -98,8 +106,10 @@ same-length-10 c = search needs
 returns-5 : tie.Need-returns-5
 unfolding shown
 returns-5 c =
-    let k = c .before .before .before .before .before .before .before .before .before in
-    (_, told _ _ _ _ _ (k .before .before .before .before .before .pre) _ (rw (c .before .before .before .before .before .place .given .1) at (k .count .ensures)), c .before .before .write-refusal-loop .ensures)
+    let w = c .before .before in
+    let is = w .before .before .before .place .given .1 in
+    let k = w .before .before .before .before .before .before .before in
+    (_, told _ _ _ _ _ (k .before .before .before .before .before .pre) _ (rw is at (k .count .ensures)), w .write-refusal-loop .ensures)
 
 pub tell-spec : {M : Type 1} → statement M
 tell-spec =

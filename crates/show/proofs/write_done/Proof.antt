@@ -13,8 +13,17 @@ write-shape-requires c κs = search needs
 write-grid-requires : tie.Need-write-grid-requires
 write-grid-requires c κs =
     let s = c .before .before .before in
-    let start = s .before .before .before .before in
-    (start .pre .0, start .pre .1, omega (arith, s .write-shape .ensures .next-is, wrote-long (s .write-shape .ensures), shape-long (start .args .rows) (start .args .cols) (start .fits .rows .fits) (start .fits .cols .fits), start .pre .2))
+    let start = s .before .before .before .before in (
+      start .pre .0,
+      start .pre .1,
+      omega (
+        arith,
+        s .write-shape .ensures .next-is,
+        wrote-long (s .write-shape .ensures),
+        shape-long (start .args .rows) (start .args .cols) (start .fits .rows .fits) (start .fits .cols .fits),
+        start .pre .2,
+      ),
+    )
 
 wide-requires : tie.Need-wide-requires
 wide-requires c κs = search needs
@@ -24,7 +33,15 @@ write-totals-requires c κs =
     let g = c .before .before .before .before in
     let s = g .before .before .before .before in
     let start = s .before .before .before .before in
-    omega (arith, s .write-shape .ensures .next-is, wrote-long (s .write-shape .ensures), g .write-grid .ensures .next-is, wrote-long (g .write-grid .ensures), shape-long (start .args .rows) (start .args .cols) (start .fits .rows .fits) (start .fits .cols .fits), start .pre .2)
+    omega (
+      arith,
+      s .write-shape .ensures .next-is,
+      wrote-long (s .write-shape .ensures),
+      g .write-grid .ensures .next-is,
+      wrote-long (g .write-grid .ensures),
+      shape-long (start .args .rows) (start .args .cols) (start .fits .rows .fits) (start .fits .cols .fits),
+      start .pre .2,
+    )
 
 same-length : tie.Need-same-length
 same-length c =

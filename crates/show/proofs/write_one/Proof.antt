@@ -14,7 +14,13 @@ put-requires : tie.Need-put-requires
 put-requires c κs =
     let write-item = c .before .before .before in
     let start = write-item .before .before .before .before in
-    omega (arith, write-item .write-item .ensures .next-is, wrote-long (write-item .write-item .ensures), item-long (now (start .args .word)) (start .args .n) (start .fits .n .fits), start .pre)
+    omega (
+      arith,
+      write-item .write-item .ensures .next-is,
+      wrote-long (write-item .write-item .ensures),
+      item-long (now (start .args .word)) (start .args .n) (start .fits .n .fits),
+      start .pre,
+    )
 
 same-length : tie.Need-same-length
 same-length c =

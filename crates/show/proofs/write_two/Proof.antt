@@ -14,14 +14,29 @@ write-item-requires-2 : tie.Need-write-item-requires-2
 write-item-requires-2 c κs =
     let write-item = c .before .before .before in
     let start = write-item .before .before .before .before .before in
-    omega (arith, write-item .write-item .ensures .next-is, wrote-long (write-item .write-item .ensures), item-long (now (start .args .word)) (start .args .n) (start .fits .n .fits), start .pre)
+    omega (
+      arith,
+      write-item .write-item .ensures .next-is,
+      wrote-long (write-item .write-item .ensures),
+      item-long (now (start .args .word)) (start .args .n) (start .fits .n .fits),
+      start .pre,
+    )
 
 put-requires : tie.Need-put-requires
 put-requires c κs =
     let write-item2 = c .before .before .before in
     let write-item = write-item2 .before .before .before .before in
     let start = write-item .before .before .before .before .before in
-    omega (arith, write-item .write-item .ensures .next-is, wrote-long (write-item .write-item .ensures), write-item2 .write-item2 .ensures .next-is, wrote-long (write-item2 .write-item2 .ensures), item-long (now (start .args .word)) (start .args .n) (start .fits .n .fits), item-long (now (start .args .other)) (start .args .m) (start .fits .m .fits), start .pre)
+    omega (
+      arith,
+      write-item .write-item .ensures .next-is,
+      wrote-long (write-item .write-item .ensures),
+      write-item2 .write-item2 .ensures .next-is,
+      wrote-long (write-item2 .write-item2 .ensures),
+      item-long (now (start .args .word)) (start .args .n) (start .fits .n .fits),
+      item-long (now (start .args .other)) (start .args .m) (start .fits .m .fits),
+      start .pre,
+    )
 
 same-length : tie.Need-same-length
 same-length c =
