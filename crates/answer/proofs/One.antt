@@ -8,7 +8,7 @@ use lib.Seq.{ext-getD}
 use Rattle.promise.specs.Links.{AtMostOne}
 use Rattle.promise.proofs.One.{is-one, unless-one-met, unless-all-one, unless-some-one, given-one}
 use Rattle.sheet.proofs.Passes.{sheet-counts-unique}
-use Rattle.count.proofs.One.{loop-one}
+use Rattle.sheet.proofs.Unique.{loop-one}
 use Rattle.text.specs.Text.{Proper, NoFirstLine}
 use Rattle.text.proofs.Single.{stops-one, first-line-one, holds-one}
 use Rattle.answer.specs.Answer.{CountsOf, Told, AnswerPromise, Answers}
