@@ -20,15 +20,9 @@ use Rattle.sheet.specs.Sheet.{codeAt, landAt, stepFrom, destOf}
 use Rattle.sheet.proofs.Table.{below8, line-code, line-hit, line-arrow, arrow-line, line-step}
 use Rattle.sheet.proofs.Signed.{step-is, down, right}
 use Rattle.sheet.proofs.Places.{row-lt, col-lt, row-of, col-of, within-true, true-within}
-use Rattle.sheet.proofs.Dest.{no-land, dest-absent, dest-land, dest-out, to-land}
+use Rattle.sheet.proofs.Dest.{both-on, no-land, dest-absent, dest-land, dest-out, to-land}
 
 -- ---- a step and its opposite undo each other
-
--- a choice that gives a number below n took the inner way
-chosen : (s t : Bool) (x n p : ℕ) → cond s (cond t x n) n ≡ p → p < n → (s ≡ true) × (t ≡ true) × (x ≡ p)
-chosen true true x n p e l = (refl, refl, e)
-chosen true false x n p e l = absurd (omega arith)
-chosen false t x n p e l = absurd (omega arith)
 
 pub opposite-lt : (j : ℕ) → opposite j < 8
 opposite-lt j = omega arith
@@ -46,7 +40,7 @@ cols-undo = below8 (λ j. lift (stepAt j .2) + lift (stepAt (opposite j) .2) ≡
 pub step-back : (rows cols j q p : ℕ) → j < 8 → Place rows cols q → Place rows cols p
     → stepFrom rows cols (stepAt j) q ≡ p → stepFrom rows cols (stepAt (opposite j)) p ≡ q
 step-back rows cols j q p h at-q at-p e =
-    let on = chosen _ _ _ _ p (sym (step-is rows cols j q h) ∙ e) (at-p .below) in
+    let on = both-on _ _ _ _ p (sym (step-is rows cols j q h) ∙ e) (at-p .below) in
     let a = within-true _ _ (on .0) in
     let b = within-true _ _ (on .1) in
     let a′ = rows-undo j h in

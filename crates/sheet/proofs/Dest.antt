@@ -77,7 +77,7 @@ module _ (rows cols : ℕ) (g : List ℕ) (p : ℕ) where
 -- ---- what the layers above use
 
 -- of two tests and a number, what a result below n tells
-both-on : (s t : Bool) (x n p : ℕ) → cond s (cond t x n) n ≡ p → p < n → (s ≡ true) × (t ≡ true) × (x ≡ p)
+pub both-on : (s t : Bool) (x n p : ℕ) → cond s (cond t x n) n ≡ p → p < n → (s ≡ true) × (t ≡ true) × (x ≡ p)
 both-on true true x n p e l = (refl, refl, e)
 both-on true false x n p e l = absurd (omega arith)
 both-on false t x n p e l = absurd (omega arith)

@@ -52,27 +52,12 @@ made most rows cols a b =
 pub outside : (n most : ℕ) → 1 ≤ n → n ≤ most → within n most ≡ false → ⊥
 outside n most h l e = false≢true (sym e ∙ true-within n most h l)
 
-pub cell-place : {rows cols r c : ℕ} → Cell rows cols r c → Place rows cols (r * cols + c)
-cell-place {rows} {cols} {r} {c} s =
-    record { rows-fit = s .rows-fit; cols-fit = s .cols-fit; below = place-lt rows cols r c (s .row-in) (s .col-in) }
-
-pub place-cell : {rows cols p : ℕ} → Place rows cols p → Cell rows cols (p / cols) (p % cols)
-place-cell s = record { rows-fit = s .rows-fit; cols-fit = s .cols-fit; row-in = row-lt s; col-in = col-lt s }
-
 -- a place taken apart
 pub row-of : (cols r c : ℕ) → c < cols → (r * cols + c) / cols ≡ r
 row-of cols r c h = mul-add-div-right {m = cols} (omega arith) r c ∙ (let z = div-eq-of-lt {n = c} {m = cols} h in omega arith)
 
 pub col-of : (cols r c : ℕ) → c < cols → (r * cols + c) % cols ≡ c
 col-of cols r c h = mul-add-mod-self-right r cols c ∙ mod-eq-of-lt h
-
--- a row and a column, each with one added, within the sheet: the number of their place, and that it is small
-pub within-place : (rows cols D R : ℕ) → rows ≤ 4096 → cols ≤ 4096 → within D rows ≡ true → within R cols ≡ true
-    → (1 ≤ D) × ((1 ≤ R) × ((D - 1) * cols + (R - 1) < 16777216))
-within-place rows cols D R h l a b =
-    let d = within-true D rows a in
-    let r = within-true R cols b in
-    (d .0, (r .0, omega (arith, mul-le-mul h l, place-lt rows cols (D - 1) (R - 1) (omega arith) (omega arith))))
 
 -- ---- a sheet with its buffers
 
