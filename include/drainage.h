@@ -47,6 +47,50 @@ typedef struct {
 drainage_reply drainage_count(size_t rows, size_t cols, const uint8_t *grid, size_t grid_len, uint32_t *counts,
                               size_t counts_len);
 
+/* Checks a grid of counts against its sheet.
+ *
+ * rows, cols  the shape, 1 to 4096 each
+ * grid        the codes, read only; grid_len is exactly rows * cols
+ * counts      the counts to check, any numbers at all, read only; counts_len is exactly rows * cols
+ *
+ * The reply is the first of these refusals that applies, and done if none does:
+ * 1 shape   rows or cols is not within 1 to 4096
+ * 2 length  grid_len or counts_len is not rows * cols
+ * 3 code    the grid has a bad code; value[0] its first place
+ * 5 count   a land cell's count is not 1 plus the counts of the land neighbours whose arrows step onto it, or an absent
+ *           cell's is not 0; value[0] the first such place
+ * 0 done    the counts are those of the sheet, and its arrows form no loop; no values
+ *
+ * Neither buffer is ever changed.
+ */
+drainage_reply drainage_check(size_t rows, size_t cols, const uint8_t *grid, size_t grid_len, const uint32_t *counts,
+                              size_t counts_len);
+
+/* Changes the code of one cell of a counted sheet and mends the counts.
+ *
+ * rows, cols  the shape, 1 to 4096 each
+ * grid        the codes, where the new code is stored; grid_len is exactly rows * cols
+ * counts      the counts of the grid as it is lent, and where they are mended; counts_len is exactly rows * cols
+ * place       the place of the cell to change, below rows * cols
+ * code        its new code, which may be the one that is there
+ *
+ * The reply is the first of these refusals that applies, and done if none does:
+ * 1 shape     rows or cols is not within 1 to 4096
+ * 2 length    grid_len or counts_len is not rows * cols
+ * 3 code      the grid has a bad code; value[0] its first place
+ * 5 count     the counts are not those of the grid, as in checking; value[0] the first place that shows it
+ * 6 place     place is not below rows * cols
+ * 7 new code  code is a bad code
+ * 4 loop      the arrows of the changed grid would form a loop; value[0] the smallest place on any loop, value[1] the
+ *             number of cells of that loop
+ * 0 done      no values
+ *
+ * After every refusal, 4 too, grid and counts are as they were lent. After 0 the grid holds the new code, and counts
+ * holds the count of every place of the changed grid; with the code that was there nothing is altered.
+ */
+drainage_reply drainage_mend(size_t rows, size_t cols, uint8_t *grid, size_t grid_len, uint32_t *counts,
+                             size_t counts_len, size_t place, uint8_t code);
+
 #ifdef __cplusplus
 }
 #endif
