@@ -14,11 +14,28 @@
 //! assert_eq!(counts, [1, 1, 1, 1, 8, 1, 1, 9, 1]);
 //! ```
 //!
+//! Counts that are kept beside their grid can be checked, and mended when one cell of the grid changes:
+//!
+//! ```
+//! use drainage::{check, mend, CheckReply, MendReply};
+//!
+//! let mut grid = [2, 4, 8, 1, 4, 16, 128, 4, 32];
+//! let mut counts = [1, 1, 1, 1, 8, 1, 1, 9, 1];
+//! assert_eq!(check(3, 3, &grid, &counts), CheckReply::Done);
+//! assert_eq!(mend(3, 3, &mut grid, &mut counts, 0, 1), MendReply::Done);
+//! assert_eq!(grid[0], 1);
+//! assert_eq!(counts, [1, 2, 1, 1, 8, 1, 1, 9, 1]);
+//! ```
+//!
 //! One operation stands in one file; the C declarations of all of them are in [`raw`].
 
 #![warn(missing_docs)]
 
+mod check;
 mod count;
+mod mend;
 pub mod raw;
 
+pub use check::{check, CheckReply};
 pub use count::{count, CountReply};
+pub use mend::{mend, MendReply};

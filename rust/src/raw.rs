@@ -28,4 +28,34 @@ extern "C" {
         counts: *mut u32,
         counts_len: usize,
     ) -> Reply;
+
+    /// Checks a grid of counts; see [`check`](crate::check()).
+    ///
+    /// # Safety
+    /// `grid` must be valid for reading `grid_len` bytes and `counts` for reading `counts_len` numbers, also where the
+    /// call is refused. Neither may be null.
+    pub fn drainage_check(
+        rows: usize,
+        cols: usize,
+        grid: *const u8,
+        grid_len: usize,
+        counts: *const u32,
+        counts_len: usize,
+    ) -> Reply;
+
+    /// Changes one cell and mends the counts; see [`mend`](crate::mend()).
+    ///
+    /// # Safety
+    /// `grid` must be valid for reading and writing `grid_len` bytes and `counts` for reading and writing `counts_len`
+    /// numbers, also where the call is refused. Neither may be null, and the two must not overlap.
+    pub fn drainage_mend(
+        rows: usize,
+        cols: usize,
+        grid: *mut u8,
+        grid_len: usize,
+        counts: *mut u32,
+        counts_len: usize,
+        place: usize,
+        code: u8,
+    ) -> Reply;
 }
