@@ -6,11 +6,14 @@
 mod common;
 
 use common::draw::Draw;
-use common::group::{long_run, whole_tally, Group, Tally};
+use common::group::{long_run, many, whole_tally, Group, Tally};
 use common::independent::{self, After, Outcome, Way};
 use common::lent::Lent;
 use common::notation;
-use common::sheets::{self, Absent, Rectangle, Relief, Sheet, GOOD_CODES};
+use common::sheets::{
+    self, any_loop_free, any_shape, every_bad_code, every_grid, odd_lengths, one_river, one_round,
+    Absent, Rectangle, Relief, Sheet, GOOD_CODES, ODD_SIDES, SHAPES,
+};
 use drainage::{count, raw, CountReply};
 
 /// What a call is lent.
@@ -115,7 +118,7 @@ fn hold(tally: &mut Tally, call: Call, expected: &Outcome, seed: u64) -> Result<
         .holds("the counts", expected.counts.given(&before))
         .map_err(in_rust)?;
 
-    tally.sheets += 1;
+    tally.outcomes += 1;
     tally.replies[expected.number as usize] += 1;
     if expected.number == 0 {
         tally.cells += grid.len() as u64;
@@ -140,27 +143,6 @@ fn compare_made(tally: &mut Tally, sheet: &Sheet, number: u32, seed: u64) -> Res
         "a sheet made for reply {number} has reply {reply}: seed {seed:#x}, {}",
         notation::write(sheet.cols, &sheet.grid)
     ))
-}
-
-/// How many sheets a group draws: ten times as many in the longer run.
-fn many(ordinarily: u64) -> u64 {
-    if long_run() {
-        10 * ordinarily
-    } else {
-        ordinarily
-    }
-}
-
-/// Every shape up to 40 by 40, with single rows and columns more often than chance would give them.
-fn any_shape(draw: &mut Draw) -> (usize, usize) {
-    let mut side = || {
-        if draw.one_in(10) {
-            1
-        } else {
-            draw.within(1, 40)
-        }
-    };
-    (side(), side())
 }
 
 /// Paper 01, "Sheets small enough to work by hand", those that are counted whole: the sheet, the reply, the counts
@@ -229,6 +211,7 @@ fn hand_outcome(reply: CountReply, counts: &str) -> Outcome {
     Outcome {
         number,
         value: [first, second, third, 0, 0, 0],
+        grid: After::AsLent,
         counts: if counts.is_empty() {
             After::AsLent
         } else {
@@ -243,24 +226,6 @@ fn run_hand_sheets(tally: &mut Tally) -> Result<(), String> {
         let sheet = Sheet { rows, cols, grid };
         let expected = hand_outcome(reply, counts);
         hold(tally, Call::of(&sheet), &expected, 1).map_err(|what| format!("{name}: {what}"))?;
-    }
-    Ok(())
-}
-
-/// Calls the work with every grid of so many cells over these codes.
-fn every_grid(
-    codes: &[u8],
-    cells: u32,
-    mut work: impl FnMut(&[u8], u64) -> Result<(), String>,
-) -> Result<(), String> {
-    let mut grid = vec![0; cells as usize];
-    for number in 0..(codes.len() as u64).pow(cells) {
-        let mut rest = number as usize;
-        for code in &mut grid {
-            *code = codes[rest % codes.len()];
-            rest /= codes.len();
-        }
-        work(&grid, number)?;
     }
     Ok(())
 }
@@ -319,15 +284,6 @@ fn run_sampled_small_sheets(tally: &mut Tally) -> Result<(), String> {
         }
     }
     Ok(())
-}
-
-fn any_loop_free(draw: &mut Draw, rows: usize, cols: usize) -> Sheet {
-    let absent = draw.pick(&[Absent(0), Absent(0), Absent(1), Absent(4), Absent(8)]);
-    match draw.below(3) {
-        0 => sheets::downhill(draw, rows, cols, absent, Relief::Rough),
-        1 => sheets::downhill(draw, rows, cols, absent, Relief::Slope),
-        _ => sheets::winding(draw, rows, cols, absent),
-    }
 }
 
 /// The least number of cells that the whole run counts to the end.
@@ -396,15 +352,8 @@ fn run_closed_rivers(tally: &mut Tally) -> Result<(), String> {
     Ok(())
 }
 
-fn is_bad(code: &u8) -> bool {
-    !GOOD_CODES.contains(code)
-}
-
 fn run_bad_codes(tally: &mut Tally) -> Result<(), String> {
-    let bad_codes: Vec<u8> = (0..=255).filter(is_bad).collect();
-    if bad_codes.len() != 246 {
-        return Err(format!("there are 246 bad codes, not {}", bad_codes.len()));
-    }
+    let bad_codes = every_bad_code();
     // Every bad code, on sheets with and without loops, alone and with others after it.
     for &bad in &bad_codes {
         for number in 0..many(8) {
@@ -446,31 +395,9 @@ fn run_bad_codes(tally: &mut Tally) -> Result<(), String> {
 }
 
 fn run_wrong_lengths(tally: &mut Tally) -> Result<(), String> {
-    let shapes = [
-        (1, 1),
-        (1, 2),
-        (2, 1),
-        (3, 4),
-        (7, 1),
-        (1, 7),
-        (5, 5),
-        (16, 16),
-        (40, 33),
-        (1, 4096),
-        (4096, 1),
-    ];
-    for (rows, cols) in shapes {
+    for (rows, cols) in SHAPES {
         let right = rows * cols;
-        let lengths = [
-            0,
-            1,
-            right - 1,
-            right,
-            right + 1,
-            right + cols,
-            rows + cols,
-            2 * right,
-        ];
+        let lengths = odd_lengths(rows, cols);
         for grid_len in lengths {
             for counts_len in lengths {
                 let seed = (0x57 << 40) + ((grid_len << 16) + counts_len) as u64;
@@ -505,30 +432,8 @@ fn run_wrong_lengths(tally: &mut Tally) -> Result<(), String> {
 }
 
 fn run_sides(tally: &mut Tally) -> Result<(), String> {
-    let sides = [
-        0,
-        1,
-        2,
-        5,
-        4095,
-        4096,
-        4097,
-        8192,
-        65536,
-        65537,
-        1 << 31,
-        (1 << 32) - 1,
-        1 << 32,
-        (1 << 32) + 1,
-        (1 << 32) + 4096,
-        1 << 33,
-        1 << 63,
-        (1 << 63) + 1,
-        usize::MAX - 1,
-        usize::MAX,
-    ];
-    for rows in sides {
-        for cols in sides {
+    for rows in ODD_SIDES {
+        for cols in ODD_SIDES {
             let seed = (0x58 << 40) ^ (rows as u64).rotate_left(20) ^ cols as u64;
             let mut draw = Draw::new(seed);
             // The length that fits, also where the product is beyond 64 bits and what is left of it fits; a few cells
@@ -556,35 +461,11 @@ fn run_sides(tally: &mut Tally) -> Result<(), String> {
     Ok(())
 }
 
-/// One river that passes every cell: along the last row, back along the row before it, and so on to the north, so that
-/// the scan by place meets its source last.
-fn one_river(rows: usize, cols: usize) -> Sheet {
-    let mut grid = vec![0; rows * cols];
-    for (row, codes) in grid.chunks_mut(cols).enumerate() {
-        let eastwards = row % 2 == 1;
-        codes.fill(if eastwards { 1 } else { 16 });
-        codes[if eastwards { cols - 1 } else { 0 }] = 64;
-    }
-    Sheet { rows, cols, grid }
-}
-
-/// The same river with its mouth led down the first column and back to its source: one loop of all cells. The number of
-/// rows must be even.
-fn one_round(rows: usize, cols: usize) -> Sheet {
-    let mut sheet = one_river(rows, cols);
-    for (row, codes) in sheet.grid.chunks_mut(cols).enumerate() {
-        if row != 0 && row % 2 == 0 {
-            codes[1] = 64;
-        }
-        codes[0] = if row == rows - 1 { 1 } else { 4 };
-    }
-    sheet
-}
-
 fn one_loop(place: usize, length: usize, cells: usize) -> Outcome {
     Outcome {
         number: 4,
         value: [place as u64, length as u64, 0, 0, 0, 0],
+        grid: After::AsLent,
         counts: After::Holds(vec![0; cells]),
     }
 }
@@ -725,7 +606,7 @@ fn every_reply_is_reached() {
     ]);
     println!(
         "counting: {} sheets and {} counted cells compared",
-        whole.sheets, whole.cells
+        whole.outcomes, whole.cells
     );
     for (number, name) in ["done", "shape", "length", "code", "loop"]
         .iter()

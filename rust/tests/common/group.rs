@@ -7,9 +7,9 @@ use std::time::Instant;
 /// What was compared.
 #[derive(Clone, Copy, Default)]
 pub struct Tally {
-    /// Calls whose whole outcome was compared, each sheet once.
-    pub sheets: u64,
-    /// Cells of the sheets that were counted to the end, reply 0.
+    /// Outcomes that were compared as wholes, each once, though it is called for in two ways.
+    pub outcomes: u64,
+    /// Cells of the sheets with reply 0, all of whose counts were right.
     pub cells: u64,
     /// How often each of the paper's replies was the right one.
     pub replies: [u64; 12],
@@ -17,7 +17,7 @@ pub struct Tally {
 
 impl Tally {
     pub fn add(&mut self, other: &Tally) {
-        self.sheets += other.sheets;
+        self.outcomes += other.outcomes;
         self.cells += other.cells;
         for (sum, more) in self.replies.iter_mut().zip(other.replies) {
             *sum += more;
@@ -49,9 +49,9 @@ impl Group {
             let mut tally = Tally::default();
             (self.work)(&mut tally)?;
             println!(
-                "{}: {} sheets, {} cells counted, {:.1} s",
+                "{}: {} outcomes, {} cells, {:.1} s",
                 self.name,
-                tally.sheets,
+                tally.outcomes,
                 tally.cells,
                 start.elapsed().as_secs_f64()
             );
@@ -82,4 +82,13 @@ pub fn whole_tally(groups: &[&Group]) -> Tally {
 /// Whether the longer run was asked for.
 pub fn long_run() -> bool {
     std::env::var("DRAINAGE_LONG").is_ok_and(|value| value == "1")
+}
+
+/// How many sheets or changes a group draws: ten times as many in the longer run.
+pub fn many(ordinarily: u64) -> u64 {
+    if long_run() {
+        10 * ordinarily
+    } else {
+        ordinarily
+    }
 }

@@ -226,11 +226,12 @@ impl<T> After<T> {
     }
 }
 
-/// The whole outcome of counting: the reply's number in the paper, its values (0 where there is none) and the counts
-/// after. The grid is always as it was lent.
+/// The whole outcome of an operation: the reply's number in the paper, its values (0 where there is none), and the grid
+/// and the counts after.
 pub struct Outcome {
     pub number: u32,
     pub value: [u64; 6],
+    pub grid: After<u8>,
     pub counts: After<u32>,
 }
 
@@ -246,6 +247,7 @@ fn refusal(number: u32, given: &[usize]) -> Outcome {
     Outcome {
         number,
         value: values(given),
+        grid: After::AsLent,
         counts: After::AsLent,
     }
 }
@@ -276,6 +278,7 @@ pub fn count_by(way: Way, rows: usize, cols: usize, grid: &[u8], counts_len: usi
         return Outcome {
             number: 4,
             value: values(&[place, length]),
+            grid: After::AsLent,
             counts: After::Holds(vec![0; waters.len()]),
         };
     }
@@ -291,6 +294,79 @@ pub fn count_by(way: Way, rows: usize, cols: usize, grid: &[u8], counts_len: usi
     Outcome {
         number: 0,
         value: values(&[land, outlets, greatest]),
+        grid: After::AsLent,
         counts: After::Holds(counts),
+    }
+}
+
+/// The first place whose count is not what the counts of the sheet's cells, poured onto the cells below them, make it.
+fn first_wrong(waters: &[Water], counts: &[u32]) -> Option<usize> {
+    let mut poured = vec![0u64; waters.len()];
+    for (water, &count) in waters.iter().zip(counts) {
+        if let Water::To(next) = water {
+            poured[*next as usize] += u64::from(count);
+        }
+    }
+    (0..waters.len()).find(|&place| {
+        let right = match waters[place] {
+            Water::None => 0,
+            Water::Out | Water::To(_) => 1 + poured[place],
+        };
+        u64::from(counts[place]) != right
+    })
+}
+
+/// The outcome of checking, in the order of refusals of paper 01: 1, 2, 3, 5.
+pub fn check(rows: usize, cols: usize, grid: &[u8], counts: &[u32]) -> Outcome {
+    if !(1..=4096).contains(&rows) || !(1..=4096).contains(&cols) {
+        return refusal(1, &[]);
+    }
+    if grid.len() != rows * cols || counts.len() != rows * cols {
+        return refusal(2, &[]);
+    }
+    match waters(rows, cols, grid) {
+        Err(place) => refusal(3, &[place]),
+        Ok(waters) => match first_wrong(&waters, counts) {
+            Some(place) => refusal(5, &[place]),
+            None => refusal(0, &[]),
+        },
+    }
+}
+
+/// The outcome of mending, in the order of refusals of paper 01: 1, 2, 3, 5, 6, 7, 4. Nothing is mended here: the
+/// changed grid is counted afresh.
+pub fn mend(
+    rows: usize,
+    cols: usize,
+    grid: &[u8],
+    counts: &[u32],
+    place: usize,
+    code: u8,
+) -> Outcome {
+    let checked = check(rows, cols, grid, counts);
+    if checked.number != 0 {
+        return checked;
+    }
+    if place >= grid.len() {
+        return refusal(6, &[]);
+    }
+    if matches!(meaning(code), Meaning::Bad) {
+        return refusal(7, &[]);
+    }
+    let mut changed = grid.to_vec();
+    changed[place] = code;
+    let afresh = count(rows, cols, &changed, counts.len());
+    match afresh.number {
+        0 => Outcome {
+            number: 0,
+            value: values(&[]),
+            grid: After::Holds(changed),
+            counts: afresh.counts,
+        },
+        4 => Outcome {
+            counts: After::AsLent,
+            ..afresh
+        },
+        other => panic!("the changed grid has reply {other}, though its shape and codes are good"),
     }
 }

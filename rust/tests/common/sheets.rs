@@ -285,3 +285,131 @@ pub fn lay_a_ring(sheet: &mut Sheet, within: Rectangle, clockwise: bool) {
         }
     }
 }
+
+/// Every shape up to 40 by 40, with single rows and columns more often than chance would give them.
+pub fn any_shape(draw: &mut Draw) -> (usize, usize) {
+    let mut side = || {
+        if draw.one_in(10) {
+            1
+        } else {
+            draw.within(1, 40)
+        }
+    };
+    (side(), side())
+}
+
+/// A sheet without loops, of any of the kinds above.
+pub fn any_loop_free(draw: &mut Draw, rows: usize, cols: usize) -> Sheet {
+    let absent = draw.pick(&[Absent(0), Absent(0), Absent(1), Absent(4), Absent(8)]);
+    match draw.below(3) {
+        0 => downhill(draw, rows, cols, absent, Relief::Rough),
+        1 => downhill(draw, rows, cols, absent, Relief::Slope),
+        _ => winding(draw, rows, cols, absent),
+    }
+}
+
+/// One river that passes every cell: along the last row, back along the row before it, and so on to the north, so that
+/// the scan by place meets its source last.
+pub fn one_river(rows: usize, cols: usize) -> Sheet {
+    let mut grid = vec![0; rows * cols];
+    for (row, codes) in grid.chunks_mut(cols).enumerate() {
+        let eastwards = row % 2 == 1;
+        codes.fill(if eastwards { 1 } else { 16 });
+        codes[if eastwards { cols - 1 } else { 0 }] = 64;
+    }
+    Sheet { rows, cols, grid }
+}
+
+/// The same river with its mouth led down the first column and back to its source: one loop of all cells. The number of
+/// rows must be even.
+pub fn one_round(rows: usize, cols: usize) -> Sheet {
+    let mut sheet = one_river(rows, cols);
+    for (row, codes) in sheet.grid.chunks_mut(cols).enumerate() {
+        if row != 0 && row % 2 == 0 {
+            codes[1] = 64;
+        }
+        codes[0] = if row == rows - 1 { 1 } else { 4 };
+    }
+    sheet
+}
+
+/// Calls the work with every grid of so many cells over these codes.
+pub fn every_grid(
+    codes: &[u8],
+    cells: u32,
+    mut work: impl FnMut(&[u8], u64) -> Result<(), String>,
+) -> Result<(), String> {
+    let mut grid = vec![0; cells as usize];
+    for number in 0..(codes.len() as u64).pow(cells) {
+        let mut rest = number as usize;
+        for code in &mut grid {
+            *code = codes[rest % codes.len()];
+            rest /= codes.len();
+        }
+        work(&grid, number)?;
+    }
+    Ok(())
+}
+
+/// The codes that are none of the ten.
+pub fn every_bad_code() -> Vec<u8> {
+    let bad_codes: Vec<u8> = (0..=255)
+        .filter(|code| !GOOD_CODES.contains(code))
+        .collect();
+    assert_eq!(bad_codes.len(), 246, "there are 246 bad codes");
+    bad_codes
+}
+
+/// Sides at and beyond the bounds, also such as are within them again if cut to 32 bits.
+pub const ODD_SIDES: [usize; 20] = [
+    0,
+    1,
+    2,
+    5,
+    4095,
+    4096,
+    4097,
+    8192,
+    65536,
+    65537,
+    1 << 31,
+    (1 << 32) - 1,
+    1 << 32,
+    (1 << 32) + 1,
+    (1 << 32) + 4096,
+    1 << 33,
+    1 << 63,
+    (1 << 63) + 1,
+    usize::MAX - 1,
+    usize::MAX,
+];
+
+/// Shapes for buffers of wrong lengths.
+pub const SHAPES: [(usize, usize); 11] = [
+    (1, 1),
+    (1, 2),
+    (2, 1),
+    (3, 4),
+    (7, 1),
+    (1, 7),
+    (5, 5),
+    (16, 16),
+    (40, 33),
+    (1, 4096),
+    (4096, 1),
+];
+
+/// The right length of a buffer for this shape, among wrong ones.
+pub fn odd_lengths(rows: usize, cols: usize) -> [usize; 8] {
+    let right = rows * cols;
+    [
+        0,
+        1,
+        right - 1,
+        right,
+        right + 1,
+        right + cols,
+        rows + cols,
+        2 * right,
+    ]
+}
