@@ -42,12 +42,22 @@ impl Sheet {
         (row < self.rows && col < self.cols).then_some(row * self.cols + col)
     }
 
-    fn is_land(&self, place: usize) -> bool {
+    pub fn is_land(&self, place: usize) -> bool {
         self.grid[place].is_power_of_two()
     }
 
+    /// The cells whose arrows point at this one, be it land or absent.
+    pub fn givers(&self, place: usize) -> Vec<usize> {
+        let mut givers = Vec::with_capacity(8);
+        for (code, by_row, by_col) in STEPS {
+            let from = self.step(place, (code, -by_row, -by_col));
+            givers.extend(from.filter(|&giver| self.grid[giver] == code));
+        }
+        givers
+    }
+
     /// The land cell that this cell's arrow points at, if it does at one.
-    fn next(&self, place: usize) -> Option<usize> {
+    pub fn next(&self, place: usize) -> Option<usize> {
         let code = self.grid[place];
         let step = STEPS.into_iter().find(|step| step.0 == code)?;
         self.step(place, step).filter(|&next| self.is_land(next))
@@ -284,6 +294,21 @@ pub fn lay_a_ring(sheet: &mut Sheet, within: Rectangle, clockwise: bool) {
             sheet.grid[row * sheet.cols + col] = code;
         }
     }
+}
+
+/// Turns the arrows of the four neighbours that stand after an inner cell to it, makes the four before it absent, and
+/// has its own water end there, which closes no loop. The cell's place is the answer.
+pub fn lay_a_confluence(sheet: &mut Sheet, row: usize, col: usize) -> usize {
+    let place = row * sheet.cols + col;
+    for (code, by_row, by_col) in STEPS {
+        match sheet.step(place, (code, -by_row, -by_col)) {
+            Some(beside) if beside > place => sheet.grid[beside] = code,
+            Some(beside) => sheet.grid[beside] = 255,
+            None => (),
+        }
+    }
+    sheet.grid[place] = 64;
+    place
 }
 
 /// Every shape up to 40 by 40, with single rows and columns more often than chance would give them.
