@@ -9,3 +9,4 @@ pub mod independent;
 pub mod lent;
 pub mod notation;
 pub mod sheets;
+pub mod text;
