@@ -439,7 +439,7 @@ fn run_sampled_small_sheets(tally: &mut Tally) -> Result<(), String> {
 }
 
 fn run_changes_of_larger_sheets(tally: &mut Tally) -> Result<(), String> {
-    for number in 0..many(3_000) {
+    for number in 0..many(2_000) {
         let seed = (0x72 << 40) + number;
         let mut draw = Draw::new(seed);
         let (rows, cols) = any_shape(&mut draw);
@@ -494,7 +494,7 @@ fn kind_of(sheet: &Sheet, (place, code): Change) -> Kind {
 fn run_every_kind_of_change(tally: &mut Tally) -> Result<(), String> {
     let mut done = [0; KINDS.len()];
     let mut loops = [0; KINDS.len()];
-    for number in 0..many(14_000) {
+    for number in 0..many(7_000) {
         let seed = (0x73 << 40) + number;
         let mut draw = Draw::new(seed);
         let wanted = number as usize % KINDS.len();
