@@ -18,7 +18,7 @@ cast-counts : tie.Need-cast-counts
 cast-counts c =
     let s = c .before .before in
     let a = s .args in
-    record { fits = fits (a .rows) (a .cols) (a .grid .now) (a .counts .now) (a .r * a .cols + a .c) (s .pre .0 .0) (s .pre .1 .0) (cell-below (s .pre .0 .1)) (s .pre .1 .1 .0) (a .sum) (s .pre .1 .1 .1) }
+    record { fits = omega (arith, fits (a .rows) (a .cols) (a .grid .now) (a .counts .now) (a .r * a .cols + a .c) (s .pre .0 .0) (s .pre .1 .0) (cell-below (s .pre .0 .1)) (s .pre .1 .1 .0) (a .sum) (s .pre .1 .1 .1)) }
 
 mul-counts : tie.Need-mul-counts
 mul-counts c = record { fits = omega (arith, cell-fits (c .before .before .pre .0 .1)) }
