@@ -22,3 +22,4 @@ pub mod Follow
 pub mod Cut
 pub mod MendBound
 pub mod Lists
+pub mod Last

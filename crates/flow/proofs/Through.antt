@@ -17,7 +17,7 @@ unfoldable pub through : ℕ → (ℕ → ℕ) → (ℕ → ℕ) → ℕ → ℕ
 through n to w p = sum n (λ k. level n to k w p)
 
 -- what the cells r that f sends to a cell q < n hold, taken over all q that g sends to p
-gather : (n : ℕ) (f g : ℕ → ℕ) (c : ℕ → ℕ) (p : ℕ) → ((r : ℕ) → n ≤ f r → g (f r) ≡ p → ⊥)
+pub gather : (n : ℕ) (f g : ℕ → ℕ) (c : ℕ → ℕ) (p : ℕ) → ((r : ℕ) → n ≤ f r → g (f r) ≡ p → ⊥)
     → sum n (λ q. on (eqb (g q) p) (sum n (λ r. on (eqb (f r) q) (c r)))) ≡ sum n (λ r. on (eqb (g (f r)) p) (c r))
 gather n f g c p far =
     sum-ext (λ q l. sym (sum-on n (eqb (g q) p) (λ r. on (eqb (f r) q) (c r)))
