@@ -23,3 +23,4 @@ pub mod Cut
 pub mod MendBound
 pub mod Lists
 pub mod Last
+pub mod Exits
