@@ -14,6 +14,10 @@ module _ (n : ℕ) (to : ℕ → ℕ) where
   unfolding given
   gives c p q l e = omega (arith, sum-at-least n q (λ q. on (eqb (to q) p) (c q)) l, on-eq (to q) p (c q) e)
 
+  -- a cell with weight has a greater count than each cell whose water goes to it, so along arrows to such cells counts rise
+  pub count-rises : (w c : ℕ → ℕ) → Counts n to w c → (p : ℕ) → p < n → to p < n → 0 < w (to p) → c p < c (to p)
+  count-rises w c eq p l lt pos = omega (arith, eq (to p) lt, gives c (to p) p l refl)
+
   -- d is c with another value at t: what is given differs only at the cell that t's arrow ends at
   module _ (c d : ℕ → ℕ) (t : ℕ) (lt : t < n) (other : (q : ℕ) → q < n → (q ≡ t → ⊥) → d q ≡ c q) where
     -- there by what t held and what it holds now
