@@ -24,3 +24,4 @@ pub mod MendBound
 pub mod Lists
 pub mod Last
 pub mod Exits
+pub mod Totals
