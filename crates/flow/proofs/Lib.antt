@@ -25,3 +25,4 @@ pub mod Lists
 pub mod Last
 pub mod Exits
 pub mod Totals
+pub mod Part
