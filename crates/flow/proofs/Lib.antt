@@ -26,3 +26,4 @@ pub mod Last
 pub mod Exits
 pub mod Totals
 pub mod Part
+pub mod Joined
