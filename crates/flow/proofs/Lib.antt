@@ -27,3 +27,4 @@ pub mod Exits
 pub mod Totals
 pub mod Part
 pub mod Joined
+pub mod Mosaic
