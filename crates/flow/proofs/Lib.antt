@@ -28,3 +28,4 @@ pub mod Totals
 pub mod Part
 pub mod Joined
 pub mod Mosaic
+pub mod Finish
