@@ -20,7 +20,7 @@ use Rattle.count.specs.Method.{Counting, NotLeft, found, leftAt}
 use Rattle.count.proofs.Left.{left-says, left-not}
 use Rattle.count.proofs.Scan.{none-left, first-left-loop, all-found}
 
-module _ (rows cols : ℕ) (g c : List ℕ) (long : length g ≡ rows * cols) (s : Counting rows cols g c (rows * cols)) where
+module _ (rows cols : ℕ) (g c : List ℕ) (long : length g ≡ rows * cols) (s : Counting rows cols g [] c (rows * cols)) where
   -- a land cell is left: the first is the answer
   module _ {p : ℕ} (first : FirstNot (length g) (NotLeft g c) p) where
     is-left : leftAt g c p ≡ true
@@ -29,7 +29,7 @@ module _ (rows cols : ℕ) (g c : List ℕ) (long : length g ≡ rows * cols) (s
     pub left-first : SheetLoop rows cols g p (loopLength (rows * cols) (destOf rows cols g) p)
     left-first =
         let (land, zero) = left-says g c p is-left in
-        first-left-loop rows cols g c long s p (omega (arith, first .inside)) land zero (λ q l. left-not g c q (first .before q l))
+        first-left-loop rows cols g [] c long s p (omega (arith, first .inside)) land zero (λ q l. left-not g c q (first .before q l))
 
     pub left-on-loop : SheetOnLoop rows cols g p
     left-on-loop = left-first .here
@@ -43,9 +43,9 @@ module _ (rows cols : ℕ) (g c : List ℕ) (long : length g ≡ rows * cols) (s
   pub answers-done : ((q : ℕ) → q < length g → NotLeft g c q) → {land out greatest : ℕ} → land ≡ number (length g) (landAt g) → found rows cols g c ≡ out
       → greatest ≡ greatestBelow (length c) (countAt c) → Answered rows cols g (ends (reply 0 (land ∷ out ∷ greatest ∷ [])) c)
   answers-done none {land} {out} {greatest} a b d =
-      let (free, counts) = none-left rows cols g c long s (λ p l. left-not g c p (none p (omega arith))) in
+      let (free, counts) = none-left rows cols g [] c long s (λ p l. left-not g c p (none p (omega arith))) in
       met-none (λ v first. first-loop-free free first) record {
         long = s .long;
         equation = counts;
-        said-is = rw (a, sym b ∙ all-found rows cols g c (λ p l. left-not g c p (none p (omega arith))), d, long, s .long);
+        said-is = rw (a, sym b ∙ all-found rows cols g [] c (λ p l. left-not g c p (none p (omega arith))), d, long, s .long);
       }

@@ -1,7 +1,7 @@
 -- The scan over a sheet: how it starts, what each place does to what is known, and what is known when it is over.
 -- Assumes nothing.
 use mathlib.Core.Bool.{true, false, not, _&&_, true≢false}
-use mathlib.Core.List.{List}
+use mathlib.Core.List.{List, []}
 use mathlib.Core.Logic.{_⊎_, inl, inr, _↔_}
 use mathlib.Core.Path.{_≡_, refl, sym, ap, _∙_}
 use Prim.Native.Nat.{ℕ, _+_, _*_, _<_, _≤_}
@@ -14,25 +14,31 @@ use Rattle.flow.proofs.Count.{gives}
 use Rattle.flow.proofs.Scan.{Ahead, looked-start, scan-start, scan-take, scan-next, scan-end, scanned, scanned-counts, scanned-free, scanned-first}
 use Rattle.flow.proofs.Sum.{test, on-true, on-false, on-ne, sum-none, sum-ext}
 use Rattle.flow.proofs.Wait.{Waits, waits-past}
-use Rattle.sheet.specs.Leaves.{LooksAround, one}
-use Rattle.sheet.specs.Sheet.{landAt, destOf, outletAt, unit, countAt, SheetCounts, SheetNoLoop, SheetLoop, SheetOnLoop}
+use Rattle.sheet.specs.Leaves.{Laid, LooksAround, one}
+use Rattle.sheet.specs.Sheet.{landAt, destOf, outletAt, countAt, SheetNoLoop, SheetLoop, SheetOnLoop}
 use Rattle.sheet.specs.declared.around.Around.the-variants.{Ready}
 use Rattle.sheet.specs.Totals.{outlets}
-use Rattle.sheet.proofs.Dest.{dest-beyond, gives-unit, outlet-iff}
+use Rattle.sheet.proofs.Dest.{dest-beyond, outlet-iff}
 use Rattle.sheet.proofs.Gather.{number-le}
+use Rattle.sheet.proofs.Places.{laid-area}
 use Rattle.sheet.proofs.Weigh.{sum-some}
-use Rattle.count.specs.Method.{Counting, Moved, found}
+use Rattle.count.specs.Method.{weight, WeightsFit, Counting, Moved, found}
+use Rattle.count.proofs.Step.{gives-weight}
 
-module _ (rows cols : ℕ) (g : List ℕ) where
+-- where nothing comes from elsewhere, no more is added than there are cells
+pub plain-fits : {rows cols : ℕ} {g c : List ℕ} → Laid rows cols g c → WeightsFit rows cols g []
+plain-fits {rows} {cols} {g} s = omega (arith, number-le (rows * cols) (landAt g), laid-area s)
+
+module _ (rows cols : ℕ) (g m : List ℕ) where
   -- ---- the start
 
-  pub scan-begins : {c : List ℕ} → c ≡ replicate (rows * cols) 0 → Counting rows cols g c 0
-  scan-begins {c} e =
+  pub scan-begins : {c : List ℕ} → WeightsFit rows cols g m → c ≡ replicate (rows * cols) 0 → Counting rows cols g m c 0
+  scan-begins {c} fits e =
       let zeros : (p : ℕ) → p < rows * cols → countAt c p ≡ 0 = λ p l. ap (λ (x : List ℕ). countAt x p) e ∙ getD-replicate (rows * cols) p 0 0 l in
       record {
         long = ap length e ∙ length-replicate (rows * cols) 0;
-        right = looked-start (rows * cols) (destOf rows cols g) (unit g) (countAt c) zeros;
-        scanned = scan-start (rows * cols) (destOf rows cols g) (unit g) (countAt c) zeros;
+        right = record { looked = looked-start (rows * cols) (destOf rows cols g) (weight g m) (countAt c) zeros; fits = fits };
+        scanned = scan-start (rows * cols) (destOf rows cols g) (weight g m) (countAt c) zeros;
       }
 
   -- where nothing is counted, no outlet is
@@ -58,21 +64,21 @@ module _ (rows cols : ℕ) (g : List ℕ) where
   -- ---- one place
 
   -- the same place, told by another number
-  pub scan-place-on : (c : List ℕ) {k l : ℕ} → k ≡ l → Counting rows cols g c k → Counting rows cols g c l
+  pub scan-place-on : (c : List ℕ) {k l : ℕ} → k ≡ l → Counting rows cols g m c k → Counting rows cols g m c l
   scan-place-on c e s = rw (sym e) s
 
-  module _ (c : List ℕ) (k : ℕ) (s : Counting rows cols g c k) where
-    passed : (0 < unit g k → countAt c k ≡ 0 → (q : ℕ) × (q < rows * cols) × (destOf rows cols g q ≡ k)) → Counting rows cols g c (k + 1)
-    passed has = record { long = s .long; right = s .right; scanned = scan-next (rows * cols) (destOf rows cols g) (unit g) (countAt c) k has (s .scanned) }
+  module _ (c : List ℕ) (k : ℕ) (s : Counting rows cols g m c k) where
+    passed : (0 < weight g m k → countAt c k ≡ 0 → (q : ℕ) × (q < rows * cols) × (destOf rows cols g q ≡ k)) → Counting rows cols g m c (k + 1)
+    passed has = record { long = s .long; right = s .right; scanned = scan-next (rows * cols) (destOf rows cols g) (weight g m) (countAt c) k has (s .scanned) }
 
     -- a cell that has its count, an absent cell, and a cell that has a giver are passed over
-    pub pass-counted : (countAt c k ≡ 0 → ⊥) → Counting rows cols g c (k + 1)
+    pub pass-counted : (countAt c k ≡ 0 → ⊥) → Counting rows cols g m c (k + 1)
     pass-counted h = passed (λ v z. absurd (h z))
 
-    pub pass-absent : landAt g k ≡ false → Counting rows cols g c (k + 1)
-    pass-absent e = passed (λ v z. absurd (let u : unit g k ≡ 0 = on-false 1 e in omega arith))
+    pub pass-absent : landAt g k ≡ false → Counting rows cols g m c (k + 1)
+    pass-absent e = passed (λ v z. absurd (let u : weight g m k ≡ 0 = on-false (1 + countAt m k) e in omega arith))
 
-    pub pass-given : {t : ℕ} → t ≡ given (rows * cols) (destOf rows cols g) one k → (t ≡ 0 → ⊥) → Counting rows cols g c (k + 1)
+    pub pass-given : {t : ℕ} → t ≡ given (rows * cols) (destOf rows cols g) one k → (t ≡ 0 → ⊥) → Counting rows cols g m c (k + 1)
     unfolding given
     pass-given {t} e h =
         let (q, l, b) = sum-some (rows * cols) (λ q. on (eqb (destOf rows cols g q) k) 1) (omega arith) in
@@ -95,45 +101,45 @@ module _ (rows cols : ℕ) (g : List ℕ) where
         )
 
     -- a walk from place k is over
-    pub pass-walked : {d : List ℕ} {u : ℕ} → rows * cols ≤ u → Moved rows cols g c d k u → Counting rows cols g d (k + 1)
-    pass-walked {d} {u} h m = record {
-      long = m .long;
-      right = m .right;
-      scanned = waits-past (rows * cols) (destOf rows cols g) (unit g) (countAt d) u h
-          (m .scanned (k + 1) (scan-take (rows * cols) (destOf rows cols g) (unit g) (countAt c) k (s .scanned)));
+    pub pass-walked : {d : List ℕ} {u : ℕ} → rows * cols ≤ u → Moved rows cols g m c d k u → Counting rows cols g m d (k + 1)
+    pass-walked {d} {u} h w = record {
+      long = w .long;
+      right = w .right;
+      scanned = waits-past (rows * cols) (destOf rows cols g) (weight g m) (countAt d) u h
+          (w .scanned (k + 1) (scan-take (rows * cols) (destOf rows cols g) (weight g m) (countAt c) k (s .scanned)));
     }
 
     -- and it counted as many outlets as it ended at
-    pub walk-found : {d : List ℕ} {u n : ℕ} → k < rows * cols → n ≡ on (eqb u (rows * cols)) 1 → Moved rows cols g c d k u → found rows cols g d ≡ found rows cols g c + n
-    walk-found l e m = omega (arith, e, m .outlets-on, on-ne k (rows * cols) 1 (λ x. omega arith))
+    pub walk-found : {d : List ℕ} {u n : ℕ} → k < rows * cols → n ≡ on (eqb u (rows * cols)) 1 → Moved rows cols g m c d k u → found rows cols g d ≡ found rows cols g c + n
+    walk-found l e w = omega (arith, e, w .outlets-on, on-ne k (rows * cols) 1 (λ x. omega arith))
 
   -- ---- the end
 
-  module _ (c : List ℕ) (long : length g ≡ rows * cols) (s : Counting rows cols g c (rows * cols)) where
+  module _ (c : List ℕ) (long : length g ≡ rows * cols) (s : Counting rows cols g m c (rows * cols)) where
     abbrev out : (p : ℕ) → rows * cols ≤ p → rows * cols ≤ destOf rows cols g p
     out = dest-beyond rows cols g long
 
-    none-ahead : Waits (rows * cols) (destOf rows cols g) (unit g) (countAt c) (λ p. ⊥)
-    none-ahead = scan-end (rows * cols) (destOf rows cols g) (unit g) (countAt c) (rows * cols) (omega arith) (s .scanned)
+    none-ahead : Waits (rows * cols) (destOf rows cols g) (weight g m) (countAt c) (λ p. ⊥)
+    none-ahead = scan-end (rows * cols) (destOf rows cols g) (weight g m) (countAt c) (rows * cols) (omega arith) (s .scanned)
 
-    weighs : (p : ℕ) → landAt g p ≡ true → 0 < unit g p
-    weighs p e = let u : unit g p ≡ 1 = on-true 1 e in omega arith
+    weighs : (p : ℕ) → landAt g p ≡ true → 0 < weight g m p
+    weighs p e = omega (arith, on-true (1 + countAt m p) e)
 
-    lands : (p : ℕ) → 0 < unit g p → landAt g p ≡ true
-    lands p v = elim (test (landAt g p)) [ inl e ↦ e | inr e ↦ absurd (let u : unit g p ≡ 0 = on-false 1 e in omega arith) ]
+    lands : (p : ℕ) → 0 < weight g m p → landAt g p ≡ true
+    lands p v = elim (test (landAt g p)) [ inl e ↦ e | inr e ↦ absurd (let u : weight g m p ≡ 0 = on-false (1 + countAt m p) e in omega arith) ]
 
     -- ZERO LEFT AFTER THE SCAN IS EXACTLY THE LOOP CELLS: of the land cells those on loops are left at 0, and no other
     pub zero-left-iff-loop : (p : ℕ) → p < rows * cols → landAt g p ≡ true → (countAt c p ≡ 0) ↔ SheetOnLoop rows cols g p
-    zero-left-iff-loop p l e = scanned (rows * cols) (destOf rows cols g) (unit g) (countAt c) out (s .right) none-ahead (gives-unit rows cols g) p l (weighs p e)
+    zero-left-iff-loop p l e = scanned (rows * cols) (destOf rows cols g) (weight g m) (countAt c) out (s .right .looked) none-ahead (gives-weight rows cols g m) p l (weighs p e)
 
     -- nothing is left: there is no loop, and all is counted
-    pub none-left : ((p : ℕ) → p < rows * cols → landAt g p ≡ true → countAt c p ≡ 0 → ⊥) → SheetNoLoop rows cols g × SheetCounts rows cols g c
+    pub none-left : ((p : ℕ) → p < rows * cols → landAt g p ≡ true → countAt c p ≡ 0 → ⊥) → SheetNoLoop rows cols g × Counts (rows * cols) (destOf rows cols g) (weight g m) (countAt c)
     none-left none =
-        let free : SheetNoLoop rows cols g = scanned-free (rows * cols) (destOf rows cols g) (unit g) (countAt c) out (s .right) none-ahead (gives-unit rows cols g) (λ p l v z. none p l (lands p v) z) in
-        (free, scanned-counts (rows * cols) (destOf rows cols g) (unit g) (countAt c) out (s .right) none-ahead (gives-unit rows cols g) free)
+        let free : SheetNoLoop rows cols g = scanned-free (rows * cols) (destOf rows cols g) (weight g m) (countAt c) out (s .right .looked) none-ahead (gives-weight rows cols g m) (λ p l v z. none p l (lands p v) z) in
+        (free, scanned-counts (rows * cols) (destOf rows cols g) (weight g m) (countAt c) out (s .right .looked) none-ahead (gives-weight rows cols g m) free)
 
     -- the first land cell that is left is the smallest place on any loop
     pub first-left-loop : (p : ℕ) → p < rows * cols → landAt g p ≡ true → countAt c p ≡ 0 → ((q : ℕ) → q < p → landAt g q ≡ true → countAt c q ≡ 0 → ⊥)
         → SheetLoop rows cols g p (loopLength (rows * cols) (destOf rows cols g) p)
     first-left-loop p l e z first =
-        scanned-first (rows * cols) (destOf rows cols g) (unit g) (countAt c) out (s .right) none-ahead (gives-unit rows cols g) p l (weighs p e) z (λ q lq v y. first q lq (lands q v) y)
+        scanned-first (rows * cols) (destOf rows cols g) (weight g m) (countAt c) out (s .right .looked) none-ahead (gives-weight rows cols g m) p l (weighs p e) z (λ q lq v y. first q lq (lands q v) y)

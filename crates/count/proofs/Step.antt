@@ -15,18 +15,16 @@ use borrow.Author.Tests.{lt-ltb, le-ltb, eq-eqb, ne-eqb}
 use Rattle.flow.specs.Net.{on, sum, number, given}
 use Rattle.flow.proofs.LookBound.{looked-bound}
 use Rattle.flow.proofs.LookStep.{Looked, zeros, look-step, zeros-fall}
-use Rattle.flow.proofs.Scan.{Ahead}
+use Rattle.flow.proofs.Scan.{Ahead, EndsWeigh}
 use Rattle.flow.proofs.Sum.{same, on-true, on-false, on-eq, on-ne, sum-change}
 use Rattle.flow.proofs.Bound.{on-le}
 use Rattle.flow.proofs.Wait.{Waits, waits-on, waits-stop, waits-less}
 use Rattle.sheet.specs.Leaves.{Laid, Cell, SpotOf, LooksAround}
-use Rattle.sheet.specs.Sheet.{landAt, destOf, outletAt, unit, countAt}
+use Rattle.sheet.specs.Sheet.{landAt, destOf, outletAt, countAt}
 use Rattle.sheet.specs.declared.step.Spot.{Spot}
 use Rattle.sheet.specs.declared.around.Around.the-variants.{Waiting, Ready}
-use Rattle.sheet.proofs.Dest.{to-land, dest-le, dest-beyond, gives-unit}
-use Rattle.sheet.proofs.Gather.{number-le}
-use Rattle.sheet.proofs.Places.{laid-area}
-use Rattle.count.specs.Method.{RightSoFar, ScannedBut, ToCount, Moved, Ends, found, left}
+use Rattle.sheet.proofs.Dest.{from-land, to-land, dest-le, dest-beyond}
+use Rattle.count.specs.Method.{weight, RightSoFar, ScannedBut, ToCount, Moved, Ends, found, left}
 
 -- ---- outlets that have their count
 
@@ -47,9 +45,18 @@ outlet-one rows cols g t {u} long land e =
       | inr x ↦ rw (ne-eqb u (rows * cols) x, lt-ltb u (rows * cols) (omega (arith, dest-le rows cols g long t)))
     ])
 
+-- ---- what cells add
+
+-- a cell that gives adds something itself, and so does the cell that it gives to
+pub gives-weight : (rows cols : ℕ) (g m : List ℕ) → EndsWeigh (rows * cols) (destOf rows cols g) (weight g m)
+gives-weight rows cols g m p h l = (
+  omega (arith, on-true (1 + countAt m p) (from-land rows cols g p refl l)),
+  omega (arith, on-true (1 + countAt m (destOf rows cols g p)) (to-land rows cols g p refl l)),
+)
+
 -- ---- one step
 
-module _ (rows cols : ℕ) (g c : List ℕ) (t : ℕ) (laid : Laid rows cols g c) (right : RightSoFar rows cols g c) (lt : t < rows * cols) (to-count : ToCount rows cols g c t) where
+module _ (rows cols : ℕ) (g m c : List ℕ) (t : ℕ) (laid : Laid rows cols g c) (right : RightSoFar rows cols g m c) (lt : t < rows * cols) (to-count : ToCount rows cols g c t) where
   land : landAt g t ≡ true
   land = to-count lt .0
 
@@ -57,11 +64,11 @@ module _ (rows cols : ℕ) (g c : List ℕ) (t : ℕ) (laid : Laid rows cols g c
   none-yet = to-count lt .1
 
   -- t waits for a giver: nothing moves, and the walk is over, though at no outlet
-  pub waited : (u : ℕ) → rows * cols < u → LooksAround rows cols g c t Waiting → Moved rows cols g c c t u
+  pub waited : (u : ℕ) → rows * cols < u → LooksAround rows cols g c t Waiting → Moved rows cols g m c c t u
   waited u h w = record {
     long = laid .counts-long;
     right = right;
-    scanned = λ k s. waits-less (rows * cols) (destOf rows cols g) (unit g) (countAt c) (λ p l v z a. inl (inr a)) (waits-stop (rows * cols) (destOf rows cols g) (unit g) (countAt c) t w s);
+    scanned = λ k s. waits-less (rows * cols) (destOf rows cols g) (weight g m) (countAt c) (λ p l v z a. inl (inr a)) (waits-stop (rows * cols) (destOf rows cols g) (weight g m) (countAt c) t w s);
     to-count = λ l. absurd (omega arith);
     outlets-on = omega (arith, on-ne t (rows * cols) 1 (λ e. omega arith), on-ne u (rows * cols) 1 (λ e. omega arith));
   }
@@ -70,39 +77,41 @@ module _ (rows cols : ℕ) (g c : List ℕ) (t : ℕ) (laid : Laid rows cols g c
   unfolding left
   waited-less u h = omega (arith, on-false 1 (le-ltb u (rows * cols) (omega arith)), on-true 1 (lt-ltb t (rows * cols) lt))
 
-  -- t's givers have their counts, s together: t gets 1 more
-  module _ (s : ℕ) (around : LooksAround rows cols g c t (Ready s)) where
+  -- t's givers have their counts, s together: t gets these and what it adds itself
+  module _ (s own : ℕ) (own-is : own ≡ 1 + countAt m t) (around : LooksAround rows cols g c t (Ready s)) where
     d : List ℕ
-    d = set c t (s + 1)
+    d = set c t (s + own)
 
-    stored : countAt d t ≡ s + 1
+    stored : countAt d t ≡ s + own
     unfolding d
-    stored = getD-set-same c t (s + 1) 0 (omega (arith, laid .counts-long))
+    stored = getD-set-same c t (s + own) 0 (omega (arith, laid .counts-long))
 
     other : (q : ℕ) → q < rows * cols → (q ≡ t → ⊥) → countAt d q ≡ countAt c q
     unfolding d
-    other q l e = getD-set-other c t q (s + 1) 0 e
+    other q l e = getD-set-other c t q (s + own) 0 e
 
     counted : countAt d t ≡ 0 → ⊥
-    counted z = omega (arith, stored)
+    counted z = omega (arith, stored, own-is)
 
-    right-on : RightSoFar rows cols g d
-    right-on = look-step (rows * cols) (destOf rows cols g) (unit g) (countAt c) (countAt d) t lt none-yet (around .0) other (omega (arith, stored, around .1, on-true 1 land)) right
+    right-on : RightSoFar rows cols g m d
+    right-on = record {
+      looked = look-step (rows * cols) (destOf rows cols g) (weight g m) (countAt c) (countAt d) t lt none-yet (around .0) other (omega (arith, stored, own-is, around .1, on-true (1 + countAt m t) land)) (right .looked);
+      fits = right .fits;
+    }
 
-    pub fits : s + 1 < 4294967296
+    pub fits : s + own < 4294967296
     fits = omega (
       arith,
       stored,
-      looked-bound (rows * cols) (destOf rows cols g) (unit g) (countAt d) (dest-beyond rows cols g (laid .grid-long)) right-on (gives-unit rows cols g) t lt,
-      number-le (rows * cols) (landAt g),
-      laid-area laid,
+      looked-bound (rows * cols) (destOf rows cols g) (weight g m) (countAt d) (dest-beyond rows cols g (laid .grid-long)) (right-on .looked) (gives-weight rows cols g m) t lt,
+      right .fits,
     )
 
     -- the cell that t's water goes to has no count yet
     next-open : {u : ℕ} → u ≡ destOf rows cols g t → ToCount rows cols g d u
     next-open {u} e l =
         let not-t : u ≡ t → ⊥ = λ x. around .0 t lt (sym e ∙ x) none-yet in
-        let zero-at : countAt c u ≡ 0 = elim (same (countAt c u) 0) [ inl z ↦ z | inr h ↦ absurd (right .before u t l lt h (sym e) none-yet) ] in
+        let zero-at : countAt c u ≡ 0 = elim (same (countAt c u) 0) [ inl z ↦ z | inr h ↦ absurd (right .looked .before u t l lt h (sym e) none-yet) ] in
         (to-land rows cols g t (sym e) l, other u l not-t ∙ zero-at)
 
     -- one more outlet has its count where t is one
@@ -113,39 +122,39 @@ module _ (rows cols : ℕ) (g c : List ℕ) (t : ℕ) (laid : Laid rows cols g c
         (λ q l h. rw (other q l h)) in
         omega (arith, change, not-yet (outletAt rows cols g t) (countAt c t) none-yet, now-counted (outletAt rows cols g t) (countAt d t) counted, outlet-one rows cols g t (laid .grid-long) land e)
 
-    pub settled : {u : ℕ} → u ≡ destOf rows cols g t → Moved rows cols g c (set c t (s + 1)) t u
+    pub settled : {u : ℕ} → u ≡ destOf rows cols g t → Moved rows cols g m c (set c t (s + own)) t u
     unfolding d
     settled {u} e = record {
       long = simp length-set (laid .counts-long);
       right = right-on;
-      scanned = λ k w. rw e (waits-on (rows * cols) (destOf rows cols g) (unit g) (countAt c) (countAt d) t other counted w);
+      scanned = λ k w. rw e (waits-on (rows * cols) (destOf rows cols g) (weight g m) (countAt c) (countAt d) t other counted w);
       to-count = next-open e;
       outlets-on = omega (arith, outlet-more e, on-ne t (rows * cols) 1 (λ x. omega arith));
     }
 
-    pub settled-less : (u : ℕ) → left rows cols (set c t (s + 1)) u < left rows cols c t
+    pub settled-less : (u : ℕ) → left rows cols (set c t (s + own)) u < left rows cols c t
     unfolding left d
     settled-less u =
         omega (
           arith,
           on-le (ltb u (rows * cols)) 1,
           on-true 1 (lt-ltb t (rows * cols) lt),
-          zeros-fall (rows * cols) (destOf rows cols g) (unit g) (countAt c) (countAt d) t lt none-yet (around .0) other (omega (arith, stored, around .1, on-true 1 land)) counted,
+          zeros-fall (rows * cols) (destOf rows cols g) (weight g m) (countAt c) (countAt d) t lt none-yet (around .0) other (omega (arith, stored, own-is, around .1, on-true (1 + countAt m t) land)) counted,
         )
 
 -- ---- steps put together
 
-module _ (rows cols : ℕ) (g : List ℕ) where
-  pub moved-none : (c : List ℕ) (t : ℕ) → Laid rows cols g c → RightSoFar rows cols g c → ToCount rows cols g c t → Moved rows cols g c c t t
+module _ (rows cols : ℕ) (g m : List ℕ) where
+  pub moved-none : (c : List ℕ) (t : ℕ) → Laid rows cols g c → RightSoFar rows cols g m c → ToCount rows cols g c t → Moved rows cols g m c c t t
   moved-none c t s r h = record { long = s .counts-long; right = r; scanned = λ k w. w; to-count = h; outlets-on = refl }
 
-  pub moved-on : (a b c : List ℕ) (t u v : ℕ) → Moved rows cols g a b t u → Moved rows cols g b c u v → Moved rows cols g a c t v
-  moved-on a b c t u v m n = record {
-    long = n .long;
-    right = n .right;
-    scanned = λ k w. n .scanned k (m .scanned k w);
-    to-count = n .to-count;
-    outlets-on = omega (arith, m .outlets-on, n .outlets-on);
+  pub moved-on : (a b c : List ℕ) (t u v : ℕ) → Moved rows cols g m a b t u → Moved rows cols g m b c u v → Moved rows cols g m a c t v
+  moved-on a b c t u v x y = record {
+    long = y .long;
+    right = y .right;
+    scanned = λ k w. y .scanned k (x .scanned k w);
+    to-count = y .to-count;
+    outlets-on = omega (arith, x .outlets-on, y .outlets-on);
   }
 
 -- ---- where steps end

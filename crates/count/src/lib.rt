@@ -2,6 +2,7 @@
 // givers have counts. What then holds 0 on land lies on a loop.
 pub mod method;
 
+ghost use mathlib.Core.List.{[]};
 ghost use mathlib.Core.Path.{_≡_};
 ghost use Prim.Native.Nat.{_*_};
 ghost use Rattle.sheet.specs.Shape.{SheetShape};
@@ -62,7 +63,7 @@ fn count_cells(rows: usize, cols: usize, grid: &[u8], counts: &mut [u32]) -> Cou
         return CountReply::Code(p);
     }
     clear(counts);
-    let outlets = scan(rows, cols, grid, counts);
+    let outlets = scan(rows, cols, grid, &[], counts);
     answer(rows, cols, grid, counts, outlets)
 }
 
@@ -70,7 +71,7 @@ fn count_cells(rows: usize, cols: usize, grid: &[u8], counts: &mut [u32]) -> Cou
 fn answer(rows: usize, cols: usize, grid: &[u8], counts: &mut [u32], outlets: usize) -> CountReply
     requires { ⌜ SheetShape rows cols ⌝ }
     requires { ⌜ SheetLengths rows cols (now grid) (now counts) ⌝ }
-    requires { ⌜ Counting rows cols (now grid) (now counts) (rows * cols) ⌝ }
+    requires { ⌜ Counting rows cols (now grid) [] (now counts) (rows * cols) ⌝ }
     requires { ⌜ found rows cols (now grid) (now counts) ≡ outlets ⌝ }
     ensures { λ r. ⌜ Answered rows cols (now (grid .entry)) (ends (countReply r) (now (counts .exit))) ⌝ }
 {

@@ -67,6 +67,10 @@ laid-area s = mul-le-mul (s .rows-fit) (s .cols-fit)
 pub place-of : {rows cols : ℕ} {g c : List ℕ} {p : ℕ} → Laid rows cols g c → p < rows * cols → Place rows cols p
 place-of s l = record { rows-fit = s .rows-fit; cols-fit = s .cols-fit; below = l }
 
+-- a sheet or a tile of an allowed shape, with buffers of its length
+pub laid-of : {most rows cols : ℕ} {g c : List ℕ} → Within most rows cols → most ≤ 4096 → length g ≡ rows * cols → length c ≡ rows * cols → Laid rows cols g c
+laid-of s l a b = record { rows-fit = omega (arith, s .rows-most); cols-fit = omega (arith, s .cols-most); grid-long = a; counts-long = b }
+
 -- the same sheet with other counts
 pub laid-on : (rows cols : ℕ) (g : List ℕ) {a b : List ℕ} → Laid rows cols g a → length b ≡ rows * cols → Laid rows cols g b
 laid-on rows cols g s e = record { rows-fit = s .rows-fit; cols-fit = s .cols-fit; grid-long = s .grid-long; counts-long = e }

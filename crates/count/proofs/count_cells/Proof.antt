@@ -4,6 +4,9 @@ use mathlib.Core.Path.{_≡_, refl, ap, _∙_}
 use lib.ListN.{length, replicate, length-replicate}
 use Prim.Native.Nat.{ℕ}
 use Rattle.promise.specs.Links.UnlessAll.{refused-at, met-all}
+use native.Mathlib.Omega.{arith}
+use Rattle.sheet.proofs.Places.{laid-of}
+use Rattle.count.proofs.Scan.{plain-fits}
 use borrow.Author.Needs.{needs}
 use Rattle.count.proofs.count_cells.Statement.{statement}
 use Rattle.count.proofs.count_cells.Tie as tie
@@ -25,18 +28,15 @@ enum-told c = search needs
 clear-requires : tie.Need-clear-requires
 clear-requires c κs = search needs
 
+slice-aggregate-scan : tie.Need-slice-aggregate-scan
+slice-aggregate-scan c = search needs
+
 scan-requires : tie.Need-scan-requires
 scan-requires c κs =
-    let s = c .before .before .before .before .before .before .before .before .before .before in
-    let cleared = c .before .before .before .clear .ensures ∙ ap (λ (n : ℕ). replicate n 0) (s .pre .1 .counts-long) in (
-      record {
-        rows-fit = s .pre .0 .rows-most;
-        cols-fit = s .pre .0 .cols-most;
-        grid-long = s .pre .1 .grid-long;
-        counts-long = ap length cleared ∙ length-replicate _ 0;
-      },
-      cleared,
-    )
+    let s = c .before .before .before .before .before .before .before .before .before .before .before in
+    let cleared = c .before .before .before .before .clear .ensures ∙ ap (λ (n : ℕ). replicate n 0) (s .pre .1 .counts-long) in
+    let laid = laid-of (s .pre .0) (omega arith) (s .pre .1 .grid-long) (ap length cleared ∙ length-replicate _ 0) in
+    (laid, (cleared, plain-fits laid))
 
 answer-requires : tie.Need-answer-requires
 answer-requires c κs = search needs
@@ -46,8 +46,8 @@ same-length c = search needs
 
 returns-2 : tie.Need-returns-2
 returns-2 c =
-    let s = c .before .before .before .before .before .before .before .before .before .before .before .before .before .before .before .before .before in
-    met-all (rw (s .pre .1 .grid-long) at (rw (c .before .before .before .before .before .before .before .before .before .before .before .before .enum-told .given .1) at (c .before .before .before .before .before .before .before .before .before .before .before .before .before .before .first-bad-code .ensures))) (c .before .before .answer .ensures)
+    let s = c .before .before .before .before .before .before .before .before .before .before .before .before .before .before .before .before .before .before in
+    met-all (rw (s .pre .1 .grid-long) at (rw (c .before .before .before .before .before .before .before .before .before .before .before .before .before .enum-told .given .1) at (c .before .before .before .before .before .before .before .before .before .before .before .before .before .before .before .first-bad-code .ensures))) (c .before .before .answer .ensures)
 
 pub count-cells-spec : {M : Type 1} → statement M
 count-cells-spec =
@@ -58,6 +58,7 @@ count-cells-spec =
     returns
     enum-told
     clear-requires
+    slice-aggregate-scan
     scan-requires
     answer-requires
     same-length

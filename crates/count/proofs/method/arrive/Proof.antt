@@ -10,21 +10,21 @@ use Rattle.count.proofs.method.arrive.Tie as tie
 
 look-around-requires : tie.Need-look-around-requires
 look-around-requires c κs =
-    let s = c .before .before .before in
+    let s = c .before .before .before .before in
     (s .pre .0 .1, ((s .pre .0 .0 .grid-long, s .pre .0 .0 .counts-long), s .pre .1 .1 (cell-below (s .pre .0 .1)) .0))
 
 enum-told : tie.Need-enum-told
 enum-told c = search needs
 
-add-t12 : tie.Need-add-t12
-add-t12 c = search needs
+add-t13 : tie.Need-add-t13
+add-t13 c = search needs
 
 enum-known-sum : tie.Need-enum-known-sum
 enum-known-sum c = search needs
 
 settle-requires : tie.Need-settle-requires
 settle-requires c κs =
-    let s = c .before .before .before .before .before .before .before .before in
+    let s = c .before .before .before .before .before .before .before .before .before in
     (s .pre .0, (s .pre .1 .0, (s .pre .1 .1, rw (c .before .before .sum .given .1) at (c .before .before .before .before .look-around .ensures))))
 
 same-length : tie.Need-same-length
@@ -32,12 +32,12 @@ same-length c = search needs
 
 returns : tie.Need-returns
 returns c =
-    let s = c .before .before .before .before .before .before in
+    let s = c .before .before .before .before .before .before .before in
     let a = s .args in
     let some : 0 < a .cols = omega (arith, s .pre .0 .1 .col-in) in
     let u = (a .rows + 1) * a .cols + 0 in (
-      waited (a .rows) (a .cols) (a .grid .now) (a .counts .now) (a .r * a .cols + a .c) (s .pre .0 .0) (s .pre .1 .0) (cell-below (s .pre .0 .1)) (s .pre .1 .1) u (wait-past (a .rows) (a .cols) some) (rw (c .enum-told .given .1) at (c .before .before .look-around .ensures)),
-      (wait-ends (a .rows) (a .cols) some, waited-less (a .rows) (a .cols) (a .grid .now) (a .counts .now) (a .r * a .cols + a .c) (s .pre .0 .0) (s .pre .1 .0) (cell-below (s .pre .0 .1)) (s .pre .1 .1) u (wait-past (a .rows) (a .cols) some)),
+      waited (a .rows) (a .cols) (a .grid .now) (a .more .now) (a .counts .now) (a .r * a .cols + a .c) (s .pre .0 .0) (s .pre .1 .0) (cell-below (s .pre .0 .1)) (s .pre .1 .1) u (wait-past (a .rows) (a .cols) some) (rw (c .enum-told .given .1) at (c .before .before .look-around .ensures)),
+      (wait-ends (a .rows) (a .cols) some, waited-less (a .rows) (a .cols) (a .grid .now) (a .more .now) (a .counts .now) (a .r * a .cols + a .c) (s .pre .0 .0) (s .pre .1 .0) (cell-below (s .pre .0 .1)) (s .pre .1 .1) u (wait-past (a .rows) (a .cols) some)),
     )
 
 same-length-2 : tie.Need-same-length-2
@@ -52,7 +52,7 @@ arrive-spec =
     (tie.spec
     look-around-requires
     enum-told
-    add-t12
+    add-t13
     enum-known-sum
     settle-requires
     same-length

@@ -13,29 +13,29 @@ use Rattle.count.proofs.method.scan.Statement.{statement}
 use Rattle.count.proofs.method.scan.Tie as tie
 
 abbrev Inv-loop : tie.InvT-loop
-Inv-loop rows cols grid counts₀ n₀ r₀ counts n r = (r ≤ rows) × Counting rows cols grid counts (r * cols) × (found rows cols grid counts ≡ n)
+Inv-loop rows cols grid more counts₀ n₀ r₀ counts n r = (r ≤ rows) × Counting rows cols grid more counts (r * cols) × (found rows cols grid counts ≡ n)
 
 abbrev μ-loop : tie.MeasureT-loop
-μ-loop rows cols grid counts₀ n₀ r₀ counts n r = rows - r
+μ-loop rows cols grid more counts₀ n₀ r₀ counts n r = rows - r
 
 loop-holds : tie.Need-loop-holds Inv-loop μ-loop
 loop-holds c =
-    let s = c .before .before in
+    let s = c .before .before .before in
     let a = s .args in
-    (omega arith, scan-place-on (a .rows) (a .cols) (a .grid .now) (a .counts .now) (omega arith) (scan-begins (a .rows) (a .cols) (a .grid .now) (s .pre .1)), none-found (a .rows) (a .cols) (a .grid .now) (s .pre .1))
+    (omega arith, scan-place-on (a .rows) (a .cols) (a .grid .now) (a .more .now) (a .counts .now) (omega arith) (scan-begins (a .rows) (a .cols) (a .grid .now) (a .more .now) (s .pre .1 .1) (s .pre .1 .0)), none-found (a .rows) (a .cols) (a .grid .now) (a .more .now) (s .pre .1 .0))
 
 scan-row-requires : tie.Need-scan-row-requires Inv-loop μ-loop
 scan-row-requires c κs =
-    let s = c .before .before .before .before .before in
+    let s = c .before .before .before .before .before .before in
     let a = s .args in
     let m = c .before .before .loop .inv in
     ((laid-on (a .rows) (a .cols) (a .grid .now) (s .pre .0) (m .1 .long), c .before .loop-test .taken), m .1)
 
 add-n : tie.Need-add-n Inv-loop μ-loop
 add-n c =
-    let s = c .before .before .before .before .before .before .before .before in
+    let s = c .before .before .before .before .before .before .before .before .before in
     let a = s .args in
-    record { fits = omega (arith, c .before .before .before .before .before .loop .inv .2, c .before .before .scan-row .ensures .1, found-le (a .rows) (a .cols) (a .grid .now) (c .before .before .scan-row .last .1 .1 .1 .0), laid-area (s .pre .0)) }
+    record { fits = omega (arith, c .before .before .before .before .before .loop .inv .2, c .before .before .scan-row .ensures .1, found-le (a .rows) (a .cols) (a .grid .now) (a .more .now) (c .before .before .scan-row .last .1 .1 .1 .1 .0), laid-area (s .pre .0)) }
 
 add-r : tie.Need-add-r Inv-loop μ-loop
 add-r c = search needs
@@ -45,23 +45,23 @@ loop-less c = search needs
 
 loop-again : tie.Need-loop-again Inv-loop μ-loop
 loop-again c =
-    let s = c .before .before .before .before .before .before .before .before in
+    let s = c .before .before .before .before .before .before .before .before .before in
     let a = s .args in (
       omega arith,
-      scan-place-on (a .rows) (a .cols) (a .grid .now) _ (omega (arith, suc-mul (c .before .before .before .before .before .loop .r) (a .cols), ap (λ (x : ℕ). x * a .cols) (add-one (c .before .before .before .before .before .loop .r)))) (c .before .before .scan-row .ensures .0),
+      scan-place-on (a .rows) (a .cols) (a .grid .now) (a .more .now) _ (omega (arith, suc-mul (c .before .before .before .before .before .loop .r) (a .cols), ap (λ (x : ℕ). x * a .cols) (add-one (c .before .before .before .before .before .loop .r)))) (c .before .before .scan-row .ensures .0),
       omega (arith, c .before .before .before .before .before .loop .inv .2, c .before .before .scan-row .ensures .1),
     )
 
 same-length : tie.Need-same-length Inv-loop μ-loop
-same-length c = omega (arith, c .before .loop .inv .1 .long, c .before .before .before .before .pre .0 .counts-long)
+same-length c = omega (arith, c .before .loop .inv .1 .long, c .before .before .before .before .before .pre .0 .counts-long)
 
 returns : tie.Need-returns Inv-loop μ-loop
 returns c =
-    let s = c .before .before .before .before in
+    let s = c .before .before .before .before .before in
     let a = s .args in
     let m = c .before .loop .inv in
     let all : c .before .loop .r ≡ a .rows = omega arith in
-    (scan-place-on (a .rows) (a .cols) (a .grid .now) _ (ap (λ (x : ℕ). x * a .cols) all) (m .1), m .2)
+    (scan-place-on (a .rows) (a .cols) (a .grid .now) (a .more .now) _ (ap (λ (x : ℕ). x * a .cols) all) (m .1), m .2)
 
 pub scan-spec : {M : Type 1} → statement M
 scan-spec =

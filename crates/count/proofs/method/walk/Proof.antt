@@ -10,20 +10,20 @@ use Rattle.count.proofs.method.walk.Statement.{statement}
 use Rattle.count.proofs.method.walk.Tie as tie
 
 abbrev Inv-loop : tie.InvT-loop
-Inv-loop rows cols grid counts₀ r c row₀ col₀ counts row col = Moved rows cols grid counts₀ counts (r * cols + c) (row * cols + col) × Ends rows cols row col
+Inv-loop rows cols grid more counts₀ r c row₀ col₀ counts row col = Moved rows cols grid more counts₀ counts (r * cols + c) (row * cols + col) × Ends rows cols row col
 
 abbrev μ-loop : tie.MeasureT-loop
-μ-loop rows cols grid counts₀ r c row₀ col₀ counts row col = left rows cols counts (row * cols + col)
+μ-loop rows cols grid more counts₀ r c row₀ col₀ counts row col = left rows cols counts (row * cols + col)
 
 loop-holds : tie.Need-loop-holds Inv-loop μ-loop
 loop-holds c =
-    let s = c .before .before in
+    let s = c .before .before .before in
     let a = s .args in
-    (moved-none (a .rows) (a .cols) (a .grid .now) (a .counts .now) (a .r * a .cols + a .c) (s .pre .0 .0) (s .pre .1 .0) (s .pre .1 .1), s .pre .0 .1)
+    (moved-none (a .rows) (a .cols) (a .grid .now) (a .more .now) (a .counts .now) (a .r * a .cols + a .c) (s .pre .0 .0) (s .pre .1 .0) (s .pre .1 .1), s .pre .0 .1)
 
 arrive-requires : tie.Need-arrive-requires Inv-loop μ-loop
 arrive-requires c κs =
-    let s = c .before .before .before .before .before in
+    let s = c .before .before .before .before .before .before in
     let a = s .args in
     let m = c .before .before .loop .inv in
     let laid = laid-on (a .rows) (a .cols) (a .grid .now) (s .pre .0 .0) (m .0 .long) in
@@ -34,12 +34,12 @@ loop-less c = c .before .before .arrive .ensures .1 .1
 
 loop-again : tie.Need-loop-again Inv-loop μ-loop
 loop-again c =
-    let s = c .before .before .before .before .before .before .before .before in
+    let s = c .before .before .before .before .before .before .before .before .before in
     let a = s .args in
-    (moved-on (a .rows) (a .cols) (a .grid .now) (a .counts .now) _ _ (a .r * a .cols + a .c) _ _ (c .before .before .before .before .before .loop .inv .0) (c .before .before .arrive .ensures .0), c .before .before .arrive .ensures .1 .0)
+    (moved-on (a .rows) (a .cols) (a .grid .now) (a .more .now) (a .counts .now) _ _ (a .r * a .cols + a .c) _ _ (c .before .before .before .before .before .loop .inv .0) (c .before .before .arrive .ensures .0), c .before .before .arrive .ensures .1 .0)
 
 same-length : tie.Need-same-length Inv-loop μ-loop
-same-length c = omega (arith, c .before .before .loop .inv .0 .long, c .before .before .before .before .before .pre .0 .0 .counts-long)
+same-length c = omega (arith, c .before .before .loop .inv .0 .long, c .before .before .before .before .before .before .pre .0 .0 .counts-long)
 
 returns : tie.Need-returns Inv-loop μ-loop
 returns c =
@@ -47,7 +47,7 @@ returns c =
     record { at = _; over = ends-over (m .1) (c .before .loop-test .left); moved = m .0; number-is = ends-none (m .1) (c .if1 .taken) }
 
 same-length-2 : tie.Need-same-length-2 Inv-loop μ-loop
-same-length-2 c = omega (arith, c .before .before .loop .inv .0 .long, c .before .before .before .before .before .pre .0 .0 .counts-long)
+same-length-2 c = omega (arith, c .before .before .loop .inv .0 .long, c .before .before .before .before .before .before .pre .0 .0 .counts-long)
 
 returns-2 : tie.Need-returns-2 Inv-loop μ-loop
 returns-2 c =
