@@ -1,0 +1,1 @@
+// Tiles: their border cells, numbered in order of place.
