@@ -1,5 +1,5 @@
 -- The border cells of a tile: those in its first or last row or column, numbered in order of place, each once. All is said by counting
--- cells; how many there are, and where each stands, are laws (proofs/Closed).
+-- cells; how many there are, and where each stands, are laws (proofs/Cells, Where).
 -- Assumes nothing.
 use mathlib.Core.Bool.{Bool, cond, _||_}
 use Prim.Native.Nat.{ℕ, zero, suc, _*_, _/_, _%_}

@@ -1,1 +1,2 @@
 // Tiles: their border cells, numbered in order of place.
+pub mod border;
