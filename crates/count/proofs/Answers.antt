@@ -20,24 +20,24 @@ use Rattle.count.specs.Method.{Counting, NotLeft, found, leftAt}
 use Rattle.count.proofs.Left.{left-says, left-not}
 use Rattle.count.proofs.Scan.{none-left, first-left-loop, all-found}
 
+-- a land cell is left: the first is the smallest place on any loop
+module _ (rows cols : ℕ) (g m c : List ℕ) (long : length g ≡ rows * cols) (s : Counting rows cols g m c (rows * cols)) {p : ℕ} (first : FirstNot (length g) (NotLeft g c) p) where
+  is-left : leftAt g c p ≡ true
+  is-left = elim (test (leftAt g c p)) [ inl e ↦ e | inr e ↦ absurd (first .here e) ]
+
+  pub left-first : SheetLoop rows cols g p (loopLength (rows * cols) (destOf rows cols g) p)
+  left-first =
+      let (land, zero) = left-says g c p is-left in
+      first-left-loop rows cols g m c long s p (omega (arith, first .inside)) land zero (λ q l. left-not g c q (first .before q l))
+
+  pub left-on-loop : SheetOnLoop rows cols g p
+  left-on-loop = left-first .here
+
 module _ (rows cols : ℕ) (g c : List ℕ) (long : length g ≡ rows * cols) (s : Counting rows cols g [] c (rows * cols)) where
-  -- a land cell is left: the first is the answer
-  module _ {p : ℕ} (first : FirstNot (length g) (NotLeft g c) p) where
-    is-left : leftAt g c p ≡ true
-    is-left = elim (test (leftAt g c p)) [ inl e ↦ e | inr e ↦ absurd (first .here e) ]
-
-    pub left-first : SheetLoop rows cols g p (loopLength (rows * cols) (destOf rows cols g) p)
-    left-first =
-        let (land, zero) = left-says g c p is-left in
-        first-left-loop rows cols g [] c long s p (omega (arith, first .inside)) land zero (λ q l. left-not g c q (first .before q l))
-
-    pub left-on-loop : SheetOnLoop rows cols g p
-    left-on-loop = left-first .here
-
-    pub answers-loop : {len : ℕ} {d : List ℕ} → len ≡ loopLength (rows * cols) (destOf rows cols g) p → d ≡ replicate (length c) 0
-        → Answered rows cols g (ends (reply 4 (p ∷ len ∷ [])) d)
-    answers-loop {len} {d} e z =
-        refused-with (record { place = p; len = len }) (rw e left-first) (ap (λ (x : List ℕ). ends (reply 4 (p ∷ len ∷ [])) x) (z ∙ ap (λ (n : ℕ). replicate n 0) (s .long)))
+  pub answers-loop : {p : ℕ} → FirstNot (length g) (NotLeft g c) p → {len : ℕ} {d : List ℕ} → len ≡ loopLength (rows * cols) (destOf rows cols g) p → d ≡ replicate (length c) 0
+      → Answered rows cols g (ends (reply 4 (p ∷ len ∷ [])) d)
+  answers-loop {p} first {len} {d} e z =
+      refused-with (record { place = p; len = len }) (rw e (left-first rows cols g [] c long s first)) (ap (λ (x : List ℕ). ends (reply 4 (p ∷ len ∷ [])) x) (z ∙ ap (λ (n : ℕ). replicate n 0) (s .long)))
 
   -- none is left: all is counted
   pub answers-done : ((q : ℕ) → q < length g → NotLeft g c q) → {land out greatest : ℕ} → land ≡ number (length g) (landAt g) → found rows cols g c ≡ out

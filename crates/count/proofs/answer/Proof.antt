@@ -1,5 +1,6 @@
 -- `count::answer` meets its contract: a land cell is left, or none.
 -- Assumes nothing.
+use mathlib.Core.List.{[]}
 use Rattle.count.proofs.Answers.{left-on-loop, answers-loop, answers-done}
 use borrow.Author.Needs.{needs}
 use Rattle.count.proofs.answer.Statement.{statement}
@@ -16,7 +17,7 @@ loop-length-requires c κs =
     let s = c .before .before .before .before .before .before .before in
     let a = s .args in (
       record { rows-fit = s .pre .0 .rows-most; cols-fit = s .pre .0 .cols-most; grid-long = s .pre .1 .0 .grid-long; counts-long = s .pre .1 .0 .grid-long },
-      left-on-loop (a .rows) (a .cols) (a .grid .now) (a .counts .now) (s .pre .1 .0 .grid-long) (s .pre .1 .1 .0) (rw (c .before .place .given .1) at (c .before .before .before .first-left .ensures)),
+      left-on-loop (a .rows) (a .cols) (a .grid .now) [] (a .counts .now) (s .pre .1 .0 .grid-long) (s .pre .1 .1 .0) (rw (c .before .place .given .1) at (c .before .before .before .first-left .ensures)),
     )
 
 clear-requires : tie.Need-clear-requires
