@@ -1,12 +1,11 @@
 -- Border cells and their numbers, each of the other: what follows from counting alone.
 -- Assumes nothing.
-use mathlib.Core.Path.{_≡_, refl, sym, ap, _∙_}
-use mathlib.Core.Bool.{Bool, true, false}
-use mathlib.Core.Logic.{_⊎_, inl, inr}
-use Prim.Native.Nat.{ℕ, zero, suc, _+_, _*_, _/_, _%_, _≤_, _<_}
+use mathlib.Core.Path.{_≡_, sym, ap, _∙_}
+use mathlib.Core.Bool.{true}
+use Prim.Native.Nat.{ℕ, _*_, _≤_, _<_}
 use native.Mathlib.Omega.{arith}
 use Rattle.tile.specs.Border.{onBorder, borderCells, borderNumber, borderPlace}
-use Rattle.tile.proofs.Rank.{number-mono, number-le, rank-rises, nth-is, nth-of, nth-rises}
+use Rattle.tile.proofs.Rank.{number-le, rank-rises, nth-is, nth-of, nth-rises}
 
 module _ (rows cols : ℕ) where
   -- ---- the place of border cell b

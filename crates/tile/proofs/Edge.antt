@@ -1,12 +1,10 @@
 -- The first and last rows and columns, by row and column. Assumes nothing.
 use mathlib.Core.Path.{_≡_, refl, sym, _∙_}
-use mathlib.Core.Bool.{Bool, true, false, _||_}
-use mathlib.Core.Logic.{_⊎_, inl, inr}
-use Prim.Native.Nat.{ℕ, zero, suc, _+_, _*_, _<_}
+use mathlib.Core.Bool.{Bool, true, false, _||_, true≢false}
+use Prim.Native.Nat.{ℕ, suc, _+_, _*_, _<_}
 use native.Mathlib.Omega.{arith}
 use lib.Dec.{eqb}
 use borrow.Author.Tests.{eqb-true, eq-eqb, ne-eqb}
-use Rattle.flow.proofs.Sum.{same}
 use Rattle.sheet.proofs.Places.{row-of, col-of}
 use Rattle.tile.specs.Border.{edgeAt, onBorder}
 
@@ -51,3 +49,12 @@ module _ (rows cols r c : ℕ) where
   pub border-at : c < cols → onBorder rows cols (r * cols + c) ≡ edgeAt rows cols r c
   unfolding onBorder
   border-at l = rw (row-of cols r c l, col-of cols r c l)
+
+  -- a cell that is not on the edge has a row and a column on each side
+  pub off-edge : edgeAt rows cols r c ≡ false → (r ≡ 0 → ⊥) × (suc r ≡ rows → ⊥) × (c ≡ 0 → ⊥) × (suc c ≡ cols → ⊥)
+  off-edge f = (
+    λ e. true≢false (sym (edge-top e) ∙ f),
+    λ e. true≢false (sym (edge-foot e) ∙ f),
+    λ e. true≢false (sym (edge-left e) ∙ f),
+    λ e. true≢false (sym (edge-right e) ∙ f),
+  )

@@ -5,3 +5,5 @@ pub mod Rows
 pub mod Numbers
 pub mod Cells
 pub mod Where
+pub mod Ways
+pub mod CaseO

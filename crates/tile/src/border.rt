@@ -51,13 +51,13 @@ pub fn border_number(rows: usize, cols: usize, r: usize, c: usize) -> usize
         return c;
     }
     let before = cols + 2 * (r - 1);
-    if r + 1 == rows {
-        return before + c;
+    if r + 1 < rows {
+        if c == 0 {
+            return before;
+        }
+        return before + 1;
     }
-    if c == 0 {
-        return before;
-    }
-    before + 1
+    before + c
 }
 
 // The row and column of border cell b.
