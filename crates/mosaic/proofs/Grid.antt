@@ -99,17 +99,25 @@ module _ (I J : ℕ) (hs ws : ℕ → ℕ) where
       go : (i j : ℕ) → (i < I) × Lies hs i R → (j < J) × Lies ws j C → (t : ℕ) × (r : ℕ) × (c : ℕ) × Spot R C t r c
       go i j (li, (ar, br)) (lj, (ac, bc)) =
           let er : (i * J + j) / J ≡ i = row-of J i j lj in
-          let ec : (i * J + j) % J ≡ j = col-of J i j lj in
-          (i * J + j, R - sum i hs, C - sum j ws, record {
-            tile = place-lt I J i j li lj;
-            row-in = rw er (omega arith);
-            col-in = rw ec (omega arith);
-            row-is = rw er (omega arith);
-            col-is = rw ec (omega arith);
-          })
+          let ec : (i * J + j) % J ≡ j = col-of J i j lj in (
+            i * J + j,
+            R - sum i hs,
+            C - sum j ws,
+            record {
+              tile = place-lt I J i j li lj;
+              row-in = rw er (omega arith);
+              col-in = rw ec (omega arith);
+              row-is = rw er (omega arith);
+              col-is = rw ec (omega arith);
+            },
+          )
 
   pub tile-cover : (p : ℕ) → p < N → (t : ℕ) × (x : ℕ) × (t < I * J) × (x < cellsIn J hs ws t) × (tileAt I J hs ws t x ≡ p)
   tile-cover p l =
-      let (t, r, c, s) = spot-cover (p / sheetCols J ws) (p % sheetCols J ws) (row-in _ _ p l) (col-in _ _ p l) in
-      (t, r * widthOf J ws t + c, s .tile, spot-place t r c (s .tile) (s .row-in) (s .col-in),
-      spot-at t r c (s .tile) (s .row-in) (s .col-in) ∙ ap₂ (λ (a b : ℕ). a * sheetCols J ws + b) (s .row-is) (s .col-is) ∙ spot-is (sheetCols J ws) p)
+      let (t, r, c, s) = spot-cover (p / sheetCols J ws) (p % sheetCols J ws) (row-in _ _ p l) (col-in _ _ p l) in (
+        t,
+        r * widthOf J ws t + c,
+        s .tile,
+        spot-place t r c (s .tile) (s .row-in) (s .col-in),
+        spot-at t r c (s .tile) (s .row-in) (s .col-in) ∙ ap₂ (λ (a b : ℕ). a * sheetCols J ws + b) (s .row-is) (s .col-is) ∙ spot-is (sheetCols J ws) p,
+      )
