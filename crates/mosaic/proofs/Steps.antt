@@ -1,12 +1,11 @@
 -- The step of an arrow on a sheet and in a tile, by natural numbers: from row r and column c to row r + u - 1 and column c + v - 1.
 -- Assumes nothing.
-use mathlib.Core.Path.{_≡_, refl, sym, ap, ap₂, _∙_}
-use mathlib.Core.Bool.{Bool, true, false, true≢false}
+use mathlib.Core.Path.{_≡_, refl, sym, ap, _∙_}
+use mathlib.Core.Bool.{true, false}
 use mathlib.Core.Logic.{_⊎_, inl, inr}
-use Prim.Native.Nat.{ℕ, zero, suc, _+_, _-_, _*_, _/_, _%_, _≤_, _<_}
+use Prim.Native.Nat.{ℕ, suc, _+_, _-_, _*_, _/_, _%_, _≤_, _<_}
 use native.Mathlib.Omega.{arith}
-use Rattle.flow.proofs.Sum.{test, same}
-use Rattle.flow.proofs.Walk.{below}
+use Rattle.flow.proofs.Sum.{test}
 use Rattle.sheet.specs.Compass.{isArrow, stepOf}
 use Rattle.sheet.specs.Leaves.{within, lift}
 use Rattle.sheet.specs.Sheet.{stepFrom}
@@ -14,7 +13,7 @@ use Rattle.sheet.proofs.Places.{place-lt, within-true, true-within}
 use Rattle.sheet.proofs.Signed.{lift-small, arrow-row, arrow-col, step-on, step-off-rows, step-off-cols}
 use Rattle.tile.specs.Border.{onBorder}
 use Rattle.tile.proofs.Edge.{edge-top, edge-foot, edge-left, edge-right}
-use Rattle.mosaic.proofs.Pieces.{row-in, col-in, spot-is}
+use Rattle.mosaic.proofs.Pieces.{col-in, spot-is}
 
 -- a step's row and column, each with one added
 abbrev pub down : ℕ → ℕ
@@ -87,29 +86,3 @@ module _ (a : ℕ) (arrow : isArrow a ≡ true) where
 
     pub place-lands : Inside rows cols (x / cols) (x % cols) (down a) (right a) → stepFrom rows cols (stepOf a) x < rows * cols
     place-lands i = rw (place-inside i) (place-lt rows cols _ _ (omega (arith, i .north, i .south)) (omega (arith, i .west, i .east)))
-
-    -- only a border cell's step leaves
-    pub leaves-edge : rows * cols ≤ stepFrom rows cols (stepOf a) x → onBorder rows cols x ≡ true
-    leaves-edge h =
-        elim (same (x / cols) 0) [
-          | inl e ↦ edge-on rows cols x (inl (inl e))
-          | inr d ↦ elim (same (suc (x / cols)) rows) [
-            | inl e ↦ edge-on rows cols x (inl (inr e))
-            | inr d' ↦ elim (same (x % cols) 0) [
-              | inl e ↦ edge-on rows cols x (inr (inl e))
-              | inr b ↦ elim (same (suc (x % cols)) cols) [
-                | inl e ↦ edge-on rows cols x (inr (inr e))
-                | inr b' ↦
-                    let lr = row-in rows cols x lx in
-                    let lc = col-in rows cols x lx in
-                    let i : Inside rows cols (x / cols) (x % cols) (down a) (right a) = record {
-                      north = omega arith;
-                      south = omega (arith, lr, down-most);
-                      west = omega arith;
-                      east = omega (arith, lc, right-most);
-                    } in
-                    absurd (omega (arith, place-lands i))
-              ]
-            ]
-          ]
-        ]
