@@ -2,12 +2,15 @@
 -- `code g`, the border number within its own tile and the code of its way (absent: 65535, 255; ends inside: 65535, 0).
 -- Assumes nothing.
 use mathlib.Core.Bool.{Bool, cond, not, _&&_}
-use Prim.Native.Nat.{ℕ, zero, suc, _+_}
+use mathlib.Core.List.{List}
+use mathlib.Core.Path.{_≡_}
+use Prim.Native.Nat.{ℕ, zero, suc, _+_, _*_, _<_}
 use lib.Dec.{eqb, ltb}
 use Rattle.flow.specs.Net.{on, sum, Counts}
 use Rattle.sheet.specs.Compass.{stepOf}
 use Rattle.sheet.specs.Sheet.{stepFrom}
-use Rattle.mosaic.specs.Layout.{sheetRows, sheetCols, bordersBefore, allBorders, borderTile, borderIn, borderAt}
+use Rattle.tile.specs.Way.{wayAt}
+use Rattle.mosaic.specs.Layout.{sheetRows, sheetCols, heightOf, widthOf, bordersIn, bordersBefore, allBorders, borderTile, borderIn, placeIn, borderAt}
 
 -- the first of the numbers below n that passes a test, or n where none does
 unfoldable pub firstBelow : ℕ → (ℕ → Bool) → ℕ
@@ -51,3 +54,11 @@ module _ (I J : ℕ) (hs ws : ℕ → ℕ) where
   -- a border cell's incoming is the sum of totals of exits of other tiles that step onto it
   unfoldable pub comesIn : (ℕ → ℕ) → (ℕ → ℕ) → (ℕ → ℕ) → ℕ → ℕ
   comesIn way code T h = sum (allBorders I J hs ws) (λ g. on (exitAt way g && (eqb (onto code g) h && isLand way code h)) (T g))
+
+-- the records say the truth of the tiles, whose own counts are `counts t`: of border cell b of tile t, its count within the tile and its way
+pub record Tells (I J : ℕ) (hs ws : ℕ → ℕ) (tiles : ℕ → List ℕ) (counts : ℕ → ℕ → ℕ) (count way code : ℕ → ℕ) : Type 0 where
+  pub count-is : (t b : ℕ) → t < I * J → b < bordersIn J hs ws t → count (bordersBefore J hs ws t + b) ≡ counts t (placeIn J hs ws t b)
+  pub way-is : (t b : ℕ) → t < I * J → b < bordersIn J hs ws t
+      → way (bordersBefore J hs ws t + b) ≡ wayAt (heightOf J hs t) (widthOf J ws t) (tiles t) (placeIn J hs ws t b) .number
+  pub code-is : (t b : ℕ) → t < I * J → b < bordersIn J hs ws t
+      → code (bordersBefore J hs ws t + b) ≡ wayAt (heightOf J hs t) (widthOf J ws t) (tiles t) (placeIn J hs ws t b) .code
