@@ -46,6 +46,9 @@ module _ (I J : ℕ) (hs ws : ℕ → ℕ) (sheet : List ℕ) where
   unfolding cutAt
   cut-absent p a = rw a
 
+  pub cut-land : (p : ℕ) → cutAt p ≡ true → landAt sheet p ≡ true
+  cut-land p c = elim (test (landAt sheet p)) [ inl a ↦ a | inr a ↦ absurd (true≢false (sym c ∙ cut-absent p a)) ]
+
   cut-off : (p : ℕ) → landAt sheet p ≡ true → N ≤ next p → cutAt p ≡ true
   unfolding cutAt
   cut-off p a l = rw (a, le-ltb (next p) N l)
