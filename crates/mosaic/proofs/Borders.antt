@@ -1,14 +1,13 @@
 -- The border cells of all tiles, numbered in record order: each once, and each cell on its tile's edge is one.
 -- Assumes nothing.
-use mathlib.Core.Path.{_≡_, refl, sym, ap, ap₂, _∙_}
+use mathlib.Core.Path.{_≡_, sym, ap, ap₂, _∙_}
 use mathlib.Core.Bool.{true}
-use Prim.Native.Nat.{ℕ, zero, suc, _+_, _-_, _*_, _/_, _%_, _≤_, _<_}
+use Prim.Native.Nat.{ℕ, _+_, _*_, _<_}
 use native.Mathlib.Omega.{arith}
-use Rattle.flow.specs.Net.{sum}
 use Rattle.flow.proofs.Part.{Places}
 use Rattle.tile.specs.Border.{onBorder, borderNumber}
 use Rattle.tile.proofs.Borders as B
-use Rattle.mosaic.specs.Layout.{sheetRows, sheetCols, heightOf, widthOf, cellsIn, tileAt, piece, bordersIn, bordersBefore, allBorders, borderTile, borderIn, placeIn, borderAt}
+use Rattle.mosaic.specs.Layout.{sheetRows, sheetCols, heightOf, widthOf, cellsIn, tileAt, bordersIn, bordersBefore, allBorders, borderTile, borderIn, placeIn, borderAt, borderOf}
 use Rattle.mosaic.proofs.Pieces.{piece-is, piece-at, piece-below}
 use Rattle.mosaic.proofs.Grid.{tile-places, tile-below, same-tile}
 
@@ -82,19 +81,15 @@ module _ (I J : ℕ) (hs ws : ℕ → ℕ) where
 
   -- ---- the border cell at place x of tile t
 
-  -- its number in the mosaic
-  abbrev pub borderOf : ℕ → ℕ → ℕ
-  borderOf t x = bordersBefore J hs ws t + borderNumber (heightOf J hs t) (widthOf J ws t) x
-
   module _ (t x : ℕ) (lt : t < I * J) (lx : x < cellsIn J hs ws t) (on-edge : onBorder (heightOf J hs t) (widthOf J ws t) x ≡ true) where
     pub of-in : borderNumber (heightOf J hs t) (widthOf J ws t) x < bordersIn J hs ws t
     unfolding bordersIn
     of-in = B.number-below (heightOf J hs t) (widthOf J ws t) x lx on-edge
 
-    pub of-below : borderOf t x < allBorders I J hs ws
+    pub of-below : borderOf J hs ws t x < allBorders I J hs ws
     of-below = border-below t (borderNumber (heightOf J hs t) (widthOf J ws t) x) lt of-in
 
-    pub of-at : borderAt I J hs ws (borderOf t x) ≡ tileAt I J hs ws t x
+    pub of-at : borderAt I J hs ws (borderOf J hs ws t x) ≡ tileAt I J hs ws t x
     of-at =
         border-at t (borderNumber (heightOf J hs t) (widthOf J ws t) x) lt of-in
         ∙ ap (tileAt I J hs ws t) (B.number-place (heightOf J hs t) (widthOf J ws t) x lx on-edge)

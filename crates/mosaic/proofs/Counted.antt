@@ -1,15 +1,15 @@
 -- The tiled theorem, of counts: without a loop, the totals of the exits, what comes in at border cells, and the finished tiles are what the whole sheet's counts say.
 -- Assumes nothing.
-use mathlib.Core.Path.{_≡_, refl, sym, ap, _∙_}
-use mathlib.Core.Bool.{Bool, true, false, cond, _&&_, true≢false}
+use mathlib.Core.Path.{_≡_, sym, ap, _∙_}
+use mathlib.Core.Bool.{Bool, true, false, _&&_, true≢false}
 use mathlib.Core.List.{List}
-use mathlib.Core.Logic.{_⊎_, inl, inr}
+use mathlib.Core.Logic.{inl, inr}
 use Prim.Native.Nat.{ℕ, zero, suc, _+_, _*_, _≤_, _<_}
 use native.Mathlib.Omega.{arith}
 use native.Mathlib.Nat.{mul-le-mul, mul-mul-mul-comm}
 use lib.Dec.{eqb}
 use Rattle.flow.specs.Net.{on, sum, Counts}
-use Rattle.flow.proofs.Sum.{test, sum-none, sum-mono, sum-ones}
+use Rattle.flow.proofs.Sum.{test, sum-mono, sum-ones}
 use Rattle.flow.proofs.Bound.{on-le, counts-bound}
 use Rattle.flow.proofs.Cut.{incoming}
 use Rattle.flow.proofs.Totals.{counts-weights, incoming-le}
@@ -18,27 +18,15 @@ use Rattle.flow.proofs.Mosaic.{total-count, came-count, mosaic}
 use Rattle.sheet.specs.Sheet.{landAt, destOf, unit, SheetNoLoop}
 use Rattle.sheet.proofs.Dest.{dest-beyond}
 use Rattle.tile.specs.Border.{onBorder}
-use Rattle.mosaic.specs.Layout.{sheetRows, sheetCols, heightOf, widthOf, cellsIn, tileAt, allBorders, borderTile, borderIn, placeIn, borderAt, Cut, Fits}
-use Rattle.mosaic.specs.Join.{exitAt, isLand, onto, leadsTo, feeds, own, Totals, comesIn, Tells}
+use Rattle.mosaic.specs.Layout.{sheetRows, sheetCols, heightOf, widthOf, cellsIn, tileAt, allBorders, borderTile, borderIn, placeIn, borderAt, Cut, Fits, borderOf}
+use Rattle.mosaic.specs.Join.{exitAt, leadsTo, feeds, own, Totals, comesIn, comesAt, TilesFree, Tells}
 use Rattle.mosaic.proofs.Grid.{tile-below}
-use Rattle.mosaic.proofs.Borders.{borderOf, at-below, of-below, of-at, border-on}
+use Rattle.mosaic.proofs.Borders.{at-below, of-below, of-at, border-on}
 use Rattle.mosaic.proofs.Cuts.{cutAt, same-land}
+use Rattle.mosaic.proofs.Totals.{comes-absent}
 use Rattle.mosaic.proofs.Joins.{exit-is, land-is, own-is}
 use Rattle.mosaic.proofs.Feeds.{landsOn, records, comes-is}
-use Rattle.mosaic.proofs.Tiled.{TilesFree, tile-free, whole}
-
--- what comes in at place x of tile t: the incoming of the border cell that stands there
-abbrev pub comesAt : (I J : ℕ) (hs ws way code T : ℕ → ℕ) (t x : ℕ) → ℕ
-comesAt I J hs ws way code T t x = cond (onBorder (heightOf J hs t) (widthOf J ws t) x) (comesIn I J hs ws way code T (borderOf I J hs ws t x)) 0
-
--- nothing comes in at an absent border cell
-pub comes-absent : (I J : ℕ) (hs ws way code T : ℕ → ℕ) (h : ℕ) → isLand way code h ≡ false → comesIn I J hs ws way code T h ≡ 0
-unfolding comesIn
-comes-absent I J hs ws way code T h e = sum-none (λ g l. rw (e, and-false (eqb (onto I J hs ws code g) h), and-false (exitAt I J hs ws way g)))
-  where
-    and-false : (b : Bool) → (b && false) ≡ false
-    and-false true = refl
-    and-false false = refl
+use Rattle.mosaic.proofs.Tiled.{tile-free, whole}
 
 -- an allowed mosaic has at most 4,194,304 cells
 sides-most : (k : ℕ) (f : ℕ → ℕ) → ((i : ℕ) → i < k → f i ≤ 256) → sum k f ≤ k * 256
@@ -81,7 +69,7 @@ module _ (I J : ℕ) (hs ws : ℕ → ℕ) (fits : Fits I J hs ws) (sheet : List
   abbrev cell : ℕ → ℕ
   cell g = placeIn J hs ws (borderTile I J hs ws g) (borderIn I J hs ws g)
 
-  free : TilesFree I J hs ws fits sheet tiles cut
+  free : TilesFree I J hs ws tiles
   free = tile-free I J hs ws fits sheet tiles cut sheet-free
 
   out : (p : ℕ) → N ≤ p → N ≤ to p
@@ -139,7 +127,7 @@ module _ (I J : ℕ) (hs ws : ℕ → ℕ) (fits : Fits I J hs ws) (sheet : List
       elim (test (onBorder (heightOf J hs t) (widthOf J ws t) x)) [
         | inl e ↦
             rw e
-            (comes-to (borderOf I J hs ws t x) (of-below I J hs ws t x lt lx e)
+            (comes-to (borderOf J hs ws t x) (of-below I J hs ws t x lt lx e)
             ∙ ap (λ (p : ℕ). sum M (λ g. on (C (at g) && eqb (to (at g)) p) (T g))) (of-at I J hs ws t x lt lx e))
         | inr e ↦
             rw e

@@ -3,7 +3,7 @@
 use mathlib.Core.Path.{_≡_, refl, sym, ap, _∙_}
 use mathlib.Core.Bool.{Bool, true, false, not, _&&_, true≢false}
 use mathlib.Core.List.{List}
-use mathlib.Core.Logic.{_⊎_, inl, inr}
+use mathlib.Core.Logic.{inl, inr}
 use Prim.Native.Nat.{ℕ, _*_, _≤_, _<_}
 use native.Mathlib.Omega.{arith}
 use lib.Dec.{eqb, ltb}
@@ -18,9 +18,9 @@ use Rattle.sheet.specs.Sheet.{codeAt, landAt, stepFrom, destOf}
 use Rattle.sheet.proofs.Dest.{dest-land, dest-step, from-land, to-land}
 use Rattle.tile.specs.Way.{crosses}
 use Rattle.tile.proofs.Ways.{crosses-border, steps-in, steps-out}
-use Rattle.mosaic.specs.Layout.{sheetRows, sheetCols, heightOf, widthOf, cellsIn, tileAt, allBorders, borderAt, Cut}
+use Rattle.mosaic.specs.Layout.{sheetRows, sheetCols, heightOf, widthOf, cellsIn, tileAt, allBorders, borderAt, Cut, borderOf}
 use Rattle.mosaic.proofs.Grid.{tileOf, tile-is, tile-below, tile-places, tile-cover}
-use Rattle.mosaic.proofs.Borders.{borderOf, of-below, of-at}
+use Rattle.mosaic.proofs.Borders.{of-below, of-at}
 use Rattle.mosaic.proofs.Neighbours.{step-stays, step-leaves}
 
 module _ (I J : ℕ) (hs ws : ℕ → ℕ) (sheet : List ℕ) where
@@ -179,4 +179,4 @@ module _ (I J : ℕ) (hs ws : ℕ → ℕ) (sheet : List ℕ) where
         let (t, x, lt, lx, ex) = tile-cover I J hs ws e l in
         let x-crosses : crosses (heightOf J hs t) (widthOf J ws t) (tiles t) x ≡ true = sym (cut-is t x lt lx) ∙ ap cutAt ex ∙ c in
         let edge = crosses-border (heightOf J hs t) (widthOf J ws t) (tiles t) x x-crosses lx in
-        (borderOf I J hs ws t x, of-below I J hs ws t x lt lx edge, of-at I J hs ws t x lt lx edge ∙ ex)
+        (borderOf J hs ws t x, of-below I J hs ws t x lt lx edge, of-at I J hs ws t x lt lx edge ∙ ex)

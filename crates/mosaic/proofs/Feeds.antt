@@ -1,30 +1,31 @@
 -- The join's net, by true records, is the net of the exits of the sheet.
 -- Assumes nothing.
 use mathlib.Core.Path.{_≡_, refl, sym, ap, ap₂, _∙_}
-use mathlib.Core.Bool.{Bool, true, false, cond, _&&_, true≢false}
+use mathlib.Core.Bool.{Bool, true, false, cond, _&&_}
 use mathlib.Core.List.{List}
-use mathlib.Core.Logic.{_⊎_, inl, inr}
+use mathlib.Core.Logic.{inl, inr}
 use Prim.Native.Nat.{ℕ, _*_, _≤_, _<_}
 use native.Mathlib.Omega.{arith}
 use lib.Dec.{eqb, ltb}
-use borrow.Author.Tests.{eqb-true, eqb-false, eq-eqb, ne-eqb, lt-ltb, le-ltb}
+use borrow.Author.Tests.{eq-eqb, ne-eqb, lt-ltb, le-ltb}
 use Rattle.flow.specs.Net.{on, sum}
 use Rattle.flow.proofs.Sum.{test, same, sum-ext}
 use Rattle.flow.proofs.Walk.{below}
 use Rattle.flow.proofs.Joined as F
 use Rattle.sheet.specs.Compass.{stepOf}
-use Rattle.sheet.specs.Sheet.{codeAt, landAt, stepFrom, destOf, SheetNoLoop}
-use Rattle.sheet.proofs.Dest.{dest-land, dest-step, from-land, to-land}
+use Rattle.sheet.specs.Sheet.{codeAt, landAt, stepFrom, destOf}
+use Rattle.sheet.proofs.Dest.{dest-land, dest-step, to-land}
 use Rattle.tile.specs.Border.{onBorder}
 use Rattle.tile.specs.Way.{crosses}
 use Rattle.tile.proofs.Ways.{crosses-step}
-use Rattle.mosaic.specs.Layout.{sheetRows, sheetCols, heightOf, widthOf, cellsIn, tileAt, allBorders, borderTile, borderIn, placeIn, borderAt, Cut, Fits}
-use Rattle.mosaic.specs.Join.{exitAt, isLand, stepsOnto, onto, leadsTo, feeds, comesIn, Tells}
-use Rattle.mosaic.proofs.Borders.{borderOf, tile-in, cell-in, border-places, of-below, of-at}
+use Rattle.mosaic.specs.Layout.{sheetRows, sheetCols, heightOf, widthOf, cellsIn, tileAt, allBorders, borderTile, borderIn, placeIn, borderAt, Cut, Fits, borderOf}
+use Rattle.mosaic.specs.Join.{isLand, stepsOnto, onto, leadsTo, feeds, comesIn, TilesFree, Tells}
+use Rattle.mosaic.proofs.Borders.{tile-in, cell-in, border-places, of-below, of-at}
 use Rattle.mosaic.proofs.Onto.{onto-at, onto-is}
 use Rattle.mosaic.proofs.Neighbours.{step-leaves}
 use Rattle.mosaic.proofs.Cuts.{cutAt, cut-land, cut-is, exit-border}
-use Rattle.mosaic.proofs.Joins.{exit-is, exit-code, land-is, way-exit, way-ends, absent-leads}
+use Rattle.mosaic.proofs.Totals.{absent-leads}
+use Rattle.mosaic.proofs.Joins.{exit-is, exit-code, land-is, way-exit, way-ends}
 
 -- the border cell that exit g steps onto where that is land, or none
 unfoldable pub landsOn : (I J : ℕ) (hs ws way code : ℕ → ℕ) (g : ℕ) → ℕ
@@ -53,7 +54,7 @@ module _ (I J : ℕ) (hs ws way code : ℕ → ℕ) (g : ℕ) where
       ]
 
 module _ (I J : ℕ) (hs ws : ℕ → ℕ) (fits : Fits I J hs ws) (sheet : List ℕ) (tiles : ℕ → List ℕ) (cut : Cut I J hs ws sheet tiles)
-    (free : (t : ℕ) → t < I * J → SheetNoLoop (heightOf J hs t) (widthOf J ws t) (tiles t))
+    (free : TilesFree I J hs ws tiles)
     (counts : ℕ → ℕ → ℕ) (count way code : ℕ → ℕ) (tells : Tells I J hs ws tiles counts count way code) where
   -- the cells and the net of the sheet, and which of its arrows are cut; the border cells
   abbrev N : ℕ
@@ -97,8 +98,8 @@ module _ (I J : ℕ) (hs ws : ℕ → ℕ) (fits : Fits I J hs ws) (sheet : List
         | inl b ↦
             let k : stepFrom (sheetRows I hs) (sheetCols J ws) (stepOf (codeAt sheet (at g))) (at g) ≡ to (at g) = dest-step (sheetRows I hs) (sheetCols J ws) sheet (at g) refl b in
             let (s, y, ls, ly, d, edge, e) = leads g l c (omega arith) in
-            let o : onto I J hs ws code g ≡ borderOf I J hs ws s y =
-            onto-is I J hs ws code g (borderOf I J hs ws s y) (of-below I J hs ws s y ls ly edge) (of-at I J hs ws s y ls ly edge ∙ sym e ∙ sym (steps-same g l c)) in
+            let o : onto I J hs ws code g ≡ borderOf J hs ws s y =
+            onto-is I J hs ws code g (borderOf J hs ws s y) (of-below I J hs ws s y ls ly edge) (of-at I J hs ws s y ls ly edge ∙ sym e ∙ sym (steps-same g l c)) in
             let lo : onto I J hs ws code g < M = omega (arith, of-below I J hs ws s y ls ly edge) in
             let a : isLand way code (onto I J hs ws code g) ≡ true =
             land-is I J hs ws fits sheet tiles cut free counts count way code tells (onto I J hs ws code g) lo
@@ -137,7 +138,7 @@ module _ (I J : ℕ) (hs ws : ℕ → ℕ) (fits : Fits I J hs ws) (sheet : List
               | inl a ↦ rw (lands-on I J hs ws way code g b a)
               | inr a ↦
                   rw (lands-absent I J hs ws way code g b a, le-ltb M M (omega arith), lt-ltb (onto I J hs ws code g) M b)
-                  (absent-leads I J hs ws fits sheet tiles cut free counts count way code tells (onto I J hs ws code g) a)
+                  (absent-leads I J hs ws way code (onto I J hs ws code g) a)
             ]
             | inr b ↦ rw (lands-off I J hs ws way code g b, le-ltb M M (omega arith), le-ltb (onto I J hs ws code g) M b)
           ])

@@ -1,8 +1,7 @@
 -- A sheet cut by full rows and columns: the row and the column on the sheet of each cell of a tile, and the tile, row and column of each cell of the sheet.
 -- Assumes nothing.
-use mathlib.Core.Path.{_≡_, refl, sym, ap, ap₂, _∙_}
-use mathlib.Core.Logic.{_⊎_, inl, inr}
-use Prim.Native.Nat.{ℕ, zero, suc, _+_, _-_, _*_, _/_, _%_, _≤_, _<_}
+use mathlib.Core.Path.{_≡_, sym, ap, ap₂, _∙_}
+use Prim.Native.Nat.{ℕ, _+_, _-_, _*_, _/_, _%_, _<_}
 use native.Mathlib.Omega.{arith}
 use Rattle.flow.specs.Net.{sum}
 use Rattle.flow.proofs.Part.{Places}

@@ -1,36 +1,29 @@
 -- What true records say of a border cell of the mosaic, by its place on the sheet.
 -- Assumes nothing.
-use mathlib.Core.Path.{_≡_, refl, sym, ap, ap₂, _∙_}
-use mathlib.Core.Bool.{Bool, true, false, cond, _&&_, true≢false}
+use mathlib.Core.Path.{_≡_, sym, ap, ap₂, _∙_}
+use mathlib.Core.Bool.{Bool, true, false}
 use mathlib.Core.List.{List}
-use mathlib.Core.Logic.{_⊎_, inl, inr}
+use mathlib.Core.Logic.{inl, inr}
 use Prim.Native.Nat.{ℕ, _+_, _*_, _≤_, _<_}
 use native.Mathlib.Omega.{arith}
-use lib.Dec.{eqb, ltb}
-use borrow.Author.Tests.{eqb-true, eqb-false, eq-eqb, ne-eqb, lt-ltb, le-ltb}
-use Rattle.flow.specs.Net.{on, sum, NoLoop}
-use Rattle.flow.proofs.Sum.{test, same, sum-ext}
-use Rattle.flow.proofs.Walk.{below}
+use Rattle.flow.specs.Net.{on, NoLoop}
+use Rattle.flow.proofs.Sum.{test}
 use Rattle.flow.proofs.Cut.{kept, kept-out}
 use Rattle.flow.proofs.Exits as X
 use Rattle.flow.proofs.Part.{part-down, part-last}
-use Rattle.flow.proofs.Joined as F
-use Rattle.sheet.specs.Compass.{stepOf}
-use Rattle.sheet.specs.Sheet.{codeAt, landAt, stepFrom, destOf, SheetNoLoop}
-use Rattle.sheet.proofs.Dest.{dest-land, dest-step, dest-beyond, to-land}
+use Rattle.sheet.specs.Sheet.{codeAt, landAt, destOf}
+use Rattle.sheet.proofs.Dest.{dest-beyond}
 use Rattle.tile.specs.Way.{crosses, lastCell}
-use Rattle.tile.proofs.Ways.{crosses-land, crosses-step, crosses-border, last-in}
+use Rattle.tile.proofs.Ways.{crosses-border, last-in}
 use Rattle.mosaic.specs.Layout.{sheetRows, sheetCols, heightOf, widthOf, cellsIn, tileAt, bordersIn, bordersBefore, allBorders, borderTile, borderIn, placeIn, borderAt, Cut, Fits}
-use Rattle.mosaic.specs.Join.{exitAt, isLand, stepsOnto, onto, leadsTo, feeds, own, comesIn, Tells}
-use Rattle.mosaic.proofs.Grid.{tile-below, tile-cover}
-use Rattle.mosaic.proofs.Borders.{borderOf, border-below, border-tile, border-in, border-at, place-in, each-border, border-places, of-below, of-at}
-use Rattle.mosaic.proofs.Onto.{onto-at, onto-is}
-use Rattle.mosaic.proofs.Neighbours.{step-leaves}
-use Rattle.mosaic.proofs.Cuts.{cutAt, same-land, cut-is, tile-part, exit-border}
+use Rattle.mosaic.specs.Join.{exitAt, isLand, leadsTo, own, TilesFree, Tells}
+use Rattle.mosaic.proofs.Grid.{tile-cover}
+use Rattle.mosaic.proofs.Borders.{border-tile, border-in, border-at, place-in, each-border, of-below, of-at}
+use Rattle.mosaic.proofs.Cuts.{cutAt, same-land, cut-is, tile-part}
 use Rattle.mosaic.proofs.Told.{exit-in, code-in, land-in, leads-end, leads-none}
 
 module _ (I J : ℕ) (hs ws : ℕ → ℕ) (fits : Fits I J hs ws) (sheet : List ℕ) (tiles : ℕ → List ℕ) (cut : Cut I J hs ws sheet tiles)
-    (free : (t : ℕ) → t < I * J → SheetNoLoop (heightOf J hs t) (widthOf J ws t) (tiles t))
+    (free : TilesFree I J hs ws tiles)
     (counts : ℕ → ℕ → ℕ) (count way code : ℕ → ℕ) (tells : Tells I J hs ws tiles counts count way code) where
   -- the cells and the net of the sheet, and which of its arrows are cut; the border cells
   abbrev N : ℕ
@@ -145,8 +138,3 @@ module _ (I J : ℕ) (hs ws : ℕ → ℕ) (fits : Fits I J hs ws) (sheet : List
 
   pub way-ends : (g : ℕ) → g < M → M ≤ leadsTo I J hs ws way g → C (X.way N to C (at g)) ≡ false
   way-ends = each-border I J hs ws (λ g. M ≤ leadsTo I J hs ws way g → C (X.way N to C (at g)) ≡ false) way-ends-in
-
-  -- a way to an absent cell leads to none
-  pub absent-leads : (g : ℕ) → isLand way code g ≡ false → leadsTo I J hs ws way g ≡ M
-  unfolding isLand leadsTo
-  absent-leads g e = elim (test (eqb (way g) 65535)) [ inl k ↦ rw k | inr k ↦ absurd (true≢false (sym (rw k) ∙ e)) ]

@@ -1,9 +1,9 @@
 -- Where a step from a cell of a tile leads: it stays in the tile, or leads to a border cell of the tile next to it, or off the mosaic.
 -- Assumes nothing.
-use mathlib.Core.Path.{_≡_, refl, sym, ap, ap₂, _∙_}
-use mathlib.Core.Bool.{Bool, true}
-use mathlib.Core.Logic.{_⊎_, inl, inr}
-use Prim.Native.Nat.{ℕ, zero, suc, _+_, _-_, _*_, _/_, _%_, _≤_, _<_}
+use mathlib.Core.Path.{_≡_, sym, ap, ap₂, _∙_}
+use mathlib.Core.Bool.{true}
+use mathlib.Core.Logic.{inl, inr}
+use Prim.Native.Nat.{ℕ, suc, _+_, _-_, _*_, _/_, _%_, _≤_, _<_}
 use native.Mathlib.Omega.{arith}
 use Rattle.flow.specs.Net.{sum}
 use Rattle.flow.proofs.Sum.{same, sum-suc}
@@ -12,8 +12,8 @@ use Rattle.sheet.specs.Sheet.{stepFrom}
 use Rattle.sheet.proofs.Places.{row-of, col-of}
 use Rattle.tile.specs.Border.{onBorder}
 use Rattle.mosaic.specs.Layout.{sheetRows, sheetCols, heightOf, widthOf, cellsIn, spotAt, tileAt}
-use Rattle.mosaic.proofs.Pieces.{row-in, col-in, spot-is, same-spot, piece-below, piece-end}
-use Rattle.mosaic.proofs.Grid.{spot-row-in, spot-col-in, spot-place, spot-at, Spot, spot-cover}
+use Rattle.mosaic.proofs.Pieces.{row-in, col-in, same-spot, piece-below, piece-end}
+use Rattle.mosaic.proofs.Grid.{spot-col-in, spot-place, spot-at, Spot, spot-cover}
 use Rattle.mosaic.proofs.Steps.{down, right, down-most, right-most, Inside, edge-on, step-inside, step-outside, step-says, place-inside, place-says, place-lands}
 
 -- ---- a move along a line in k pieces

@@ -1,16 +1,15 @@
 -- Rows, columns and places of any shape, and a line in pieces of the lengths f 0, f 1, ..: piece i starts at sum i f.
 -- Assumes nothing.
-use mathlib.Core.Path.{_≡_, refl, sym, ap, ap₂, _∙_}
-use mathlib.Core.Bool.{cond}
+use mathlib.Core.Path.{_≡_, sym, ap, ap₂, _∙_}
 use mathlib.Core.Logic.{_⊎_, inl, inr}
-use Prim.Native.Nat.{ℕ, zero, suc, _+_, _-_, _*_, _/_, _%_, _≤_, _<_}
+use Prim.Native.Nat.{ℕ, zero, suc, _+_, _*_, _/_, _%_, _≤_, _<_}
 use native.Mathlib.Omega.{arith}
 use native.Mathlib.Nat.{div-add-mod', mod-lt, div-lt-iff-lt-mul}
 use borrow.Author.Tests.{lt-ltb, le-ltb}
 use Rattle.flow.specs.Net.{sum}
 use Rattle.flow.proofs.Sum.{sum-suc}
 use Rattle.flow.proofs.Walk.{below}
-use Rattle.sheet.proofs.Places.{cols-pos, row-of, col-of}
+use Rattle.sheet.proofs.Places.{cols-pos}
 use Rattle.mosaic.specs.Layout.{piece}
 
 -- ---- rows, columns and places

@@ -14,7 +14,7 @@ use Rattle.flow.proofs.Mosaic.{Mosaic, whole-free, join-loop}
 use Rattle.sheet.specs.Sheet.{destOf, SheetNoLoop, SheetOnLoop}
 use Rattle.sheet.proofs.Dest.{dest-beyond}
 use Rattle.mosaic.specs.Layout.{sheetRows, sheetCols, heightOf, widthOf, cellsIn, tileAt, allBorders, borderTile, borderIn, placeIn, borderAt, Cut, Fits}
-use Rattle.mosaic.specs.Join.{exitAt, leadsTo, feeds, Tells}
+use Rattle.mosaic.specs.Join.{exitAt, leadsTo, feeds, TilesFree, Tells}
 use Rattle.mosaic.proofs.Grid.{tile-cover}
 use Rattle.mosaic.proofs.Borders.{tile-in, cell-in}
 use Rattle.mosaic.proofs.Cuts.{cutAt, tile-part, exit-border}
@@ -41,10 +41,6 @@ module _ (I J : ℕ) (hs ws : ℕ → ℕ) (fits : Fits I J hs ws) (sheet : List
   abbrev at : ℕ → ℕ
   at = borderAt I J hs ws
 
-  -- no tile has a loop
-  abbrev pub TilesFree : Type 0
-  TilesFree = (t : ℕ) → t < I * J → SheetNoLoop (heightOf J hs t) (widthOf J ws t) (tiles t)
-
   out : (p : ℕ) → N ≤ p → N ≤ to p
   out = dest-beyond (sheetRows I hs) (sheetCols J ws) sheet (cut .sheet-long)
 
@@ -52,7 +48,7 @@ module _ (I J : ℕ) (hs ws : ℕ → ℕ) (fits : Fits I J hs ws) (sheet : List
   tile-out t lt = dest-beyond (heightOf J hs t) (widthOf J ws t) (tiles t) (cut .tile-long t lt)
 
   -- a tile of a sheet without loops has none
-  pub tile-free : SheetNoLoop (sheetRows I hs) (sheetCols J ws) sheet → TilesFree
+  pub tile-free : SheetNoLoop (sheetRows I hs) (sheetCols J ws) sheet → TilesFree I J hs ws tiles
   tile-free free t lt =
       part-free (cellsIn J hs ws t) N (ton t) (kept N to C) (tileAt I J hs ws t) (tile-part I J hs ws sheet tiles cut t lt) (tile-out t lt) (kept-out N to C out) (kept-free N to C out free)
 
@@ -61,7 +57,7 @@ module _ (I J : ℕ) (hs ws : ℕ → ℕ) (fits : Fits I J hs ws) (sheet : List
     abbrev join : ℕ → ℕ
     join = feeds I J hs ws way code
 
-    module _ (free : TilesFree) (tells : Tells I J hs ws tiles counts count way code) where
+    module _ (free : TilesFree I J hs ws tiles) (tells : Tells I J hs ws tiles counts count way code) where
       feeds-same : F.feeds M (λ g. C (at g)) (landsOn I J hs ws way code) (leadsTo I J hs ws way) ≡ join
       feeds-same = λ i g. sym (feeds-is I J hs ws fits sheet tiles cut free counts count way code tells g) i
 
@@ -93,7 +89,7 @@ module _ (I J : ℕ) (hs ws : ℕ → ℕ) (fits : Fits I J hs ws) (sheet : List
           (λ o. let (c, k) = e .0 o in (x ∙ c, k), λ o. e .1 (sym x ∙ o .0, o .1))
 
     -- some step refuses for a loop exactly where the sheet has one; the records are true where no tile has a loop
-    pub tiled-free : (TilesFree → Tells I J hs ws tiles counts count way code) → SheetNoLoop (sheetRows I hs) (sheetCols J ws) sheet ↔ (TilesFree × NoLoop M join)
+    pub tiled-free : (TilesFree I J hs ws tiles → Tells I J hs ws tiles counts count way code) → SheetNoLoop (sheetRows I hs) (sheetCols J ws) sheet ↔ (TilesFree I J hs ws tiles × NoLoop M join)
     tiled-free tells = (
       λ f. let free = tile-free f in (free, join-free free (tells free) .0 f),
       λ f. join-free (f .0) (tells (f .0)) .1 (f .1),

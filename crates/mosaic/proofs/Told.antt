@@ -1,27 +1,27 @@
 -- What true records say of border cell b of tile t: whether it is an exit, whether it is land, and where its way is.
 -- Assumes nothing.
-use mathlib.Core.Path.{_≡_, refl, sym, ap, ap₂, _∙_}
-use mathlib.Core.Bool.{Bool, true, false, cond, not, _&&_, true≢false}
+use mathlib.Core.Path.{_≡_, sym, ap, ap₂, _∙_}
+use mathlib.Core.Bool.{Bool, true, false, true≢false}
 use mathlib.Core.List.{List}
-use mathlib.Core.Logic.{_⊎_, inl, inr}
+use mathlib.Core.Logic.{inl, inr}
 use Prim.Native.Nat.{ℕ, _+_, _*_, _/_, _%_, _≤_, _<_}
 use native.Mathlib.Omega.{arith}
 use lib.Dec.{eqb}
-use borrow.Author.Tests.{eqb-true, eq-eqb, ne-eqb}
+use borrow.Author.Tests.{eq-eqb, ne-eqb}
 use Rattle.flow.proofs.Last.{last-past}
 use Rattle.flow.proofs.Sum.{test}
-use Rattle.sheet.specs.Shape.{Within, TileShape}
-use Rattle.sheet.specs.Sheet.{codeAt, landAt, destOf, SheetNoLoop}
+use Rattle.sheet.specs.Shape.{TileShape}
+use Rattle.sheet.specs.Sheet.{codeAt, landAt, destOf}
 use Rattle.sheet.proofs.Dest.{dest-absent}
-use Rattle.tile.specs.Border.{borderCells, borderNumber, borderPlace}
-use Rattle.tile.specs.Way.{Way, crosses, lastCell, wayAt}
+use Rattle.tile.specs.Border.{borderNumber}
+use Rattle.tile.specs.Way.{crosses, lastCell}
 use Rattle.tile.proofs.Borders as B
 use Rattle.tile.proofs.Cells.{cells-most}
 use Rattle.tile.proofs.Ways.{crosses-land, crosses-last, way-absent, way-inside, way-over, way-number, way-place}
-use Rattle.mosaic.specs.Layout.{heightOf, widthOf, cellsIn, bordersIn, bordersBefore, allBorders, borderTile, borderIn, placeIn, Cut, Fits}
-use Rattle.mosaic.specs.Join.{exitAt, isLand, leadsTo, Tells}
+use Rattle.mosaic.specs.Layout.{heightOf, widthOf, cellsIn, bordersIn, bordersBefore, allBorders, placeIn, Cut, Fits, borderOf}
+use Rattle.mosaic.specs.Join.{exitAt, isLand, leadsTo, TilesFree, Tells}
 use Rattle.mosaic.proofs.Pieces.{row-in, col-in}
-use Rattle.mosaic.proofs.Borders.{borderOf, border-tile, border-in, place-in}
+use Rattle.mosaic.proofs.Borders.{border-tile, border-in, place-in}
 
 module _ (I J : ℕ) (hs ws : ℕ → ℕ) (fits : Fits I J hs ws) where
   -- a tile of an allowed mosaic has an allowed shape
@@ -36,7 +36,7 @@ module _ (I J : ℕ) (hs ws : ℕ → ℕ) (fits : Fits I J hs ws) where
   unfolding bordersIn
   borders-most t l = cells-most (heightOf J hs t) (widthOf J ws t) (tile-shape t l)
 
-  module _ (sheet : List ℕ) (tiles : ℕ → List ℕ) (cut : Cut I J hs ws sheet tiles) (free : (t : ℕ) → t < I * J → SheetNoLoop (heightOf J hs t) (widthOf J ws t) (tiles t))
+  module _ (sheet : List ℕ) (tiles : ℕ → List ℕ) (cut : Cut I J hs ws sheet tiles) (free : TilesFree I J hs ws tiles)
       (counts : ℕ → ℕ → ℕ) (count way code : ℕ → ℕ) (tells : Tells I J hs ws tiles counts count way code)
       (t b : ℕ) (lt : t < I * J) (lb : b < bordersIn J hs ws t) where
     -- its number in the mosaic, its place in its tile, and the last cell of its path there
@@ -137,7 +137,7 @@ module _ (I J : ℕ) (hs ws : ℕ → ℕ) (fits : Fits I J hs ws) where
     land-in = is-land said
 
     -- where the last cell crosses, the way leads to it; otherwise to none
-    to-end : Said → (over end ≡ true → leadsTo I J hs ws way g ≡ borderOf I J hs ws t end) × (over end ≡ false → leadsTo I J hs ws way g ≡ allBorders I J hs ws)
+    to-end : Said → (over end ≡ true → leadsTo I J hs ws way g ≡ borderOf J hs ws t end) × (over end ≡ false → leadsTo I J hs ws way g ≡ allBorders I J hs ws)
     unfolding leadsTo
     to-end (absent a w c) = (λ k. absurd (true≢false (sym k ∙ absent-end a)), λ k. rw w)
     to-end (inside a o w c) = (λ k. absurd (true≢false (sym k ∙ o)), λ k. rw w)
@@ -146,7 +146,7 @@ module _ (I J : ℕ) (hs ws : ℕ → ℕ) (fits : Fits I J hs ws) where
       λ k. absurd (true≢false (sym o ∙ k)),
     )
 
-    pub leads-end : over end ≡ true → leadsTo I J hs ws way g ≡ borderOf I J hs ws t end
+    pub leads-end : over end ≡ true → leadsTo I J hs ws way g ≡ borderOf J hs ws t end
     leads-end = to-end said .0
 
     pub leads-none : over end ≡ false → leadsTo I J hs ws way g ≡ allBorders I J hs ws

@@ -8,9 +8,10 @@ use Prim.Native.Nat.{ℕ, zero, suc, _+_, _*_, _<_}
 use lib.Dec.{eqb, ltb}
 use Rattle.flow.specs.Net.{on, sum, Counts}
 use Rattle.sheet.specs.Compass.{stepOf}
-use Rattle.sheet.specs.Sheet.{stepFrom}
+use Rattle.sheet.specs.Sheet.{stepFrom, SheetNoLoop}
+use Rattle.tile.specs.Border.{onBorder}
 use Rattle.tile.specs.Way.{wayAt}
-use Rattle.mosaic.specs.Layout.{sheetRows, sheetCols, heightOf, widthOf, bordersIn, bordersBefore, allBorders, borderTile, borderIn, placeIn, borderAt}
+use Rattle.mosaic.specs.Layout.{sheetRows, sheetCols, heightOf, widthOf, bordersIn, bordersBefore, allBorders, borderTile, borderIn, placeIn, borderAt, borderOf}
 
 -- the first of the numbers below n that passes a test, or n where none does
 unfoldable pub firstBelow : ℕ → (ℕ → Bool) → ℕ
@@ -54,6 +55,14 @@ module _ (I J : ℕ) (hs ws : ℕ → ℕ) where
   -- a border cell's incoming is the sum of totals of exits of other tiles that step onto it
   unfoldable pub comesIn : (ℕ → ℕ) → (ℕ → ℕ) → (ℕ → ℕ) → ℕ → ℕ
   comesIn way code T h = sum (allBorders I J hs ws) (λ g. on (exitAt way g && (eqb (onto code g) h && isLand way code h)) (T g))
+
+  -- what comes in at place x of tile t: the incoming of the border cell that stands there
+  abbrev pub comesAt : (ℕ → ℕ) → (ℕ → ℕ) → (ℕ → ℕ) → ℕ → ℕ → ℕ
+  comesAt way code T t x = cond (onBorder (heightOf J hs t) (widthOf J ws t) x) (comesIn way code T (borderOf J hs ws t x)) 0
+
+-- no tile has a loop
+abbrev pub TilesFree : (I J : ℕ) (hs ws : ℕ → ℕ) → (ℕ → List ℕ) → Type 0
+TilesFree I J hs ws tiles = (t : ℕ) → t < I * J → SheetNoLoop (heightOf J hs t) (widthOf J ws t) (tiles t)
 
 -- the records say the truth of the tiles, whose own counts are `counts t`: of border cell b of tile t, its count within the tile and its way
 pub record Tells (I J : ℕ) (hs ws : ℕ → ℕ) (tiles : ℕ → List ℕ) (counts : ℕ → ℕ → ℕ) (count way code : ℕ → ℕ) : Type 0 where

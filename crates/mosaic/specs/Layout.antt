@@ -9,7 +9,7 @@ use lib.Dec.{ltb}
 use lib.ListN.{length}
 use Rattle.flow.specs.Net.{sum}
 use Rattle.sheet.specs.Sheet.{codeAt}
-use Rattle.tile.specs.Border.{borderCells, borderPlace}
+use Rattle.tile.specs.Border.{borderCells, borderNumber, borderPlace}
 
 -- ---- the sheet and its tiles
 
@@ -89,3 +89,7 @@ placeIn J hs ws t b = borderPlace (heightOf J hs t) (widthOf J ws t) b
 -- the place on the sheet of border cell g of the mosaic
 abbrev pub borderAt : ℕ → ℕ → (ℕ → ℕ) → (ℕ → ℕ) → ℕ → ℕ
 borderAt I J hs ws g = tileAt I J hs ws (borderTile I J hs ws g) (placeIn J hs ws (borderTile I J hs ws g) (borderIn I J hs ws g))
+
+-- the number in the mosaic of the border cell at place x of tile t
+abbrev pub borderOf : ℕ → (ℕ → ℕ) → (ℕ → ℕ) → ℕ → ℕ → ℕ
+borderOf J hs ws t x = bordersBefore J hs ws t + borderNumber (heightOf J hs t) (widthOf J ws t) x
