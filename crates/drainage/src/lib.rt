@@ -1,4 +1,6 @@
 // What C and Rust call: one thin function for each operation, with the operation's promise. include/drainage.h declares the same for C.
+pub mod tiles;
+
 ghost use mathlib.Core.Path.{_≡_};
 ghost use mathlib.Core.List.{[], _∷_};
 ghost use Rattle.promise.specs.Reply.{Reply};
@@ -24,7 +26,7 @@ pub struct Flat {
 }
 
 // A reply of at most three values; those that it has not are 0.
-fn replied(number: u32, first: u64, second: u64, third: u64) -> Flat
+pub fn replied(number: u32, first: u64, second: u64, third: u64) -> Flat
     ensures { λ r. ⌜ r ≡ flat (reply number (first ∷ second ∷ third ∷ [])) ⌝ }
 {
     Flat {
