@@ -102,13 +102,13 @@ fn first_bad_incoming(rows: usize, cols: usize, grid: &[u8], incoming: &[u32]) -
     requires { ⌜ (length (now grid) ≡ rows * cols) × (length (now incoming) ≡ borderCells rows cols) ⌝ }
     ensures { λ r. ⌜ Finds (borderCells rows cols) (IncomingOk rows cols (now (grid .entry)) (now (incoming .entry))) r ⌝ }
 {
-    let mut b = 0;
-    while b < incoming.len() {
-        let s = border_spot(rows, cols, b);
-        if !may_come_in(grid[s.row * cols + s.col], incoming[b]) {
-            return Found::At(b);
+    let mut border = 0;
+    while border < incoming.len() {
+        let s = border_spot(rows, cols, border);
+        if !may_come_in(grid[s.row * cols + s.col], incoming[border]) {
+            return Found::At(border);
         }
-        b += 1;
+        border += 1;
     }
     Found::Nothing
 }

@@ -17,10 +17,10 @@ use Rattle.tile_finish.proofs.first_bad_incoming.Statement.{statement}
 use Rattle.tile_finish.proofs.first_bad_incoming.Tie as tie
 
 abbrev Inv-loop : tie.InvT-loop
-Inv-loop rows cols grid incoming b₀ b = (b ≤ length incoming) × ((q : ℕ) → q < b → IncomingOk rows cols grid incoming q)
+Inv-loop rows cols grid incoming border₀ border = (border ≤ length incoming) × ((q : ℕ) → q < border → IncomingOk rows cols grid incoming q)
 
 abbrev μ-loop : tie.MeasureT-loop
-μ-loop rows cols grid incoming b₀ b = length incoming - b
+μ-loop rows cols grid incoming border₀ border = length incoming - border
 
 loop-holds : tie.Need-loop-holds Inv-loop μ-loop
 loop-holds c = (omega arith, below-none _)
@@ -37,7 +37,7 @@ add-may-come-in : tie.Need-add-may-come-in Inv-loop μ-loop
 add-may-come-in c = record { fits = omega (arith, spot-fits (c .before .before .border-spot .ensures .0) (omega (arith, c .before .before .before .before .before .before .before .pre .0 .rows-most)) (omega (arith, c .before .before .before .before .before .before .before .pre .0 .cols-most))) }
 
 shared-slice-read-may-come-in : tie.Need-shared-slice-read-may-come-in Inv-loop μ-loop
-shared-slice-read-may-come-in c = let s = c .before .before .before .before .before .before .before .before in omega (arith, c .before .before .before .border-spot .ensures .0 .place-is, place-in (s .args .rows) (s .args .cols) (c .before .before .before .before .before .loop .b) (omega (arith, s .pre .1 .1, c .before .before .before .before .loop-test .taken)), s .pre .1 .0)
+shared-slice-read-may-come-in c = let s = c .before .before .before .before .before .before .before .before in omega (arith, c .before .before .before .border-spot .ensures .0 .place-is, place-in (s .args .rows) (s .args .cols) (c .before .before .before .before .before .loop .border) (omega (arith, s .pre .1 .1, c .before .before .before .before .loop-test .taken)), s .pre .1 .0)
 
 mul-may-come-in-2 : tie.Need-mul-may-come-in-2 Inv-loop μ-loop
 mul-may-come-in-2 c = let s = c .before .before .before .before .before .before .before .before in record { fits = omega (arith, c .before .before .before .before .loop-test .taken, s .pre .1 .1, cells-most (s .args .rows) (s .args .cols) (s .pre .0)) }
@@ -53,12 +53,12 @@ returns c =
     let s = c .before .before .before .before .before .before .before .before .before .before .before in
     record {
       inside = omega (arith, s .pre .1 .1, c .before .before .before .before .before .before .before .loop-test .taken);
-      here = λ ok. true≢false (sym (ok-may (s .args .rows) (s .args .cols) (s .args .grid .now) (s .args .incoming .now) (c .before .before .before .before .before .before .before .before .loop .b) (c .before .before .before .before .before .before .border-spot .ensures .0 .place-is) (omega (arith, c .before .before .before .before .before .before .border-spot .ensures .0 .place-is, place-in (s .args .rows) (s .args .cols) (c .before .before .before .before .before .before .before .before .loop .b) (omega (arith, s .pre .1 .1, c .before .before .before .before .before .before .before .loop-test .taken)), s .pre .1 .0)) ok) ∙ sym (c .before .may-come-in .ensures) ∙ not-true _ (c .if1 .taken));
+      here = λ ok. true≢false (sym (ok-may (s .args .rows) (s .args .cols) (s .args .grid .now) (s .args .incoming .now) (c .before .before .before .before .before .before .before .before .loop .border) (c .before .before .before .before .before .before .border-spot .ensures .0 .place-is) (omega (arith, c .before .before .before .before .before .before .border-spot .ensures .0 .place-is, place-in (s .args .rows) (s .args .cols) (c .before .before .before .before .before .before .before .before .loop .border) (omega (arith, s .pre .1 .1, c .before .before .before .before .before .before .before .loop-test .taken)), s .pre .1 .0)) ok) ∙ sym (c .before .may-come-in .ensures) ∙ not-true _ (c .if1 .taken));
       before = c .before .before .before .before .before .before .before .before .loop .inv .1;
     }
 
-add-b : tie.Need-add-b Inv-loop μ-loop
-add-b c = search needs
+add-border : tie.Need-add-border Inv-loop μ-loop
+add-border c = search needs
 
 loop-less : tie.Need-loop-less Inv-loop μ-loop
 loop-less c = search needs
@@ -66,7 +66,7 @@ loop-less c = search needs
 loop-again : tie.Need-loop-again Inv-loop μ-loop
 loop-again c =
     let s = c .before .before .before .before .before .before .before .before .before .before .before in
-    (omega (arith, c .before .before .before .before .before .before .before .loop-test .taken), below-more _ _ (c .before .before .before .before .before .before .before .before .loop .inv .1) (may-ok (s .args .rows) (s .args .cols) (s .args .grid .now) (s .args .incoming .now) (c .before .before .before .before .before .before .before .before .loop .b) (c .before .before .before .before .before .before .border-spot .ensures .0 .place-is) (omega (arith, c .before .before .before .before .before .before .border-spot .ensures .0 .place-is, place-in (s .args .rows) (s .args .cols) (c .before .before .before .before .before .before .before .before .loop .b) (omega (arith, s .pre .1 .1, c .before .before .before .before .before .before .before .loop-test .taken)), s .pre .1 .0)) (sym (c .before .may-come-in .ensures) ∙ not-false _ (c .if1 .left))))
+    (omega (arith, c .before .before .before .before .before .before .before .loop-test .taken), below-more _ _ (c .before .before .before .before .before .before .before .before .loop .inv .1) (may-ok (s .args .rows) (s .args .cols) (s .args .grid .now) (s .args .incoming .now) (c .before .before .before .before .before .before .before .before .loop .border) (c .before .before .before .before .before .before .border-spot .ensures .0 .place-is) (omega (arith, c .before .before .before .before .before .before .border-spot .ensures .0 .place-is, place-in (s .args .rows) (s .args .cols) (c .before .before .before .before .before .before .before .before .loop .border) (omega (arith, s .pre .1 .1, c .before .before .before .before .before .before .before .loop-test .taken)), s .pre .1 .0)) (sym (c .before .may-come-in .ensures) ∙ not-false _ (c .if1 .left))))
 
 returns-2 : tie.Need-returns-2 Inv-loop μ-loop
 returns-2 c = λ q l. c .before .loop .inv .1 q (omega (arith, c .before .before .before .before .pre .1 .1))
@@ -86,7 +86,7 @@ first-bad-incoming-spec =
     shared-slice-read-may-come-in-2
     may-come-in-requires
     returns
-    add-b
+    add-border
     loop-less
     loop-again
     returns-2)
