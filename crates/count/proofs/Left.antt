@@ -1,19 +1,14 @@
--- Places left without a count, and walking round the loop that one of them lies on.
+-- Places left without a count.
 -- Assumes nothing.
 use mathlib.Core.Bool.{Bool, true, false, _&&_, true≢false}
 use mathlib.Core.List.{List}
-use mathlib.Core.Logic.{_⊎_, inl, inr, _↔_}
-use mathlib.Core.Path.{_≡_, refl, sym, ap, _∙_}
-use Prim.Native.Nat.{ℕ, suc, _+_, _*_, _<_, _≤_}
-use native.Mathlib.Numerals.{add-one}
-use native.Mathlib.Omega.{arith}
+use mathlib.Core.Logic.{_⊎_, inl, inr}
+use mathlib.Core.Path.{_≡_, sym, _∙_}
+use Prim.Native.Nat.{ℕ, _<_}
 use lib.Dec.{eqb}
 use lib.ListN.{length, getD}
 use borrow.Author.Tests.{eq-eqb, ne-eqb}
-use Rattle.flow.specs.Net.{steps, OnLoop}
 use Rattle.flow.proofs.Sum.{test, same}
-use Rattle.flow.proofs.Walk.{steps-suc, inside-at}
-use Rattle.flow.proofs.Round.{first-round}
 use Rattle.sheet.specs.Compass.{isArrow}
 use Rattle.sheet.specs.Sheet.{landAt, countAt}
 use Rattle.sheet.proofs.Dest.{land-read}
@@ -43,18 +38,3 @@ module _ (g c : List ℕ) (p : ℕ) where
   pub left-not : leftAt g c p ≡ false → landAt g p ≡ true → countAt c p ≡ 0 → ⊥
   unfolding leftAt
   left-not e t z = true≢false (sym (rw (t, eq-eqb (countAt c p) 0 z)) ∙ e)
-
--- ---- walking round
-
-module _ (n : ℕ) (to : ℕ → ℕ) (out : (p : ℕ) → n ≤ p → n ≤ to p) (p : ℕ) (on : OnLoop n to p) where
-  -- whoever walks round stays on the sheet
-  pub round-inside : (j : ℕ) → steps to j p < n
-  round-inside j =
-      let (l, (k, back)) = on in
-      let (i, li, e) = first-round to k p back j in
-      let h : steps to i p < n = inside-at n to out p (let m : i ≤ suc k = omega arith in m) (omega arith) in
-      omega arith
-
--- one step further round
-pub round-on : (to : ℕ → ℕ) (p k : ℕ) {q r : ℕ} → q ≡ steps to (suc k) p → r ≡ to q → r ≡ steps to (suc (k + 1)) p
-round-on to p k e d = d ∙ ap to e ∙ sym (steps-suc to (suc k) p) ∙ ap (λ (m : ℕ). steps to (suc m) p) (sym (add-one k))

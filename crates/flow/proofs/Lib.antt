@@ -29,3 +29,6 @@ pub mod Part
 pub mod Joined
 pub mod Mosaic
 pub mod Finish
+pub mod Back
+pub mod HandOn
+pub mod HandStep

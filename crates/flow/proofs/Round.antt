@@ -2,12 +2,13 @@
 use mathlib.Core.Path.{_≡_, refl, sym, ap, _∙_}
 use mathlib.Core.Logic.{inl, inr}
 use Prim.Native.Nat.{ℕ, zero, suc, _+_, _-_, _≤_, _<_}
+use native.Mathlib.Numerals.{add-one}
 use native.Mathlib.Omega.{arith}
 use lib.Dec.{eqb}
 use borrow.Author.Tests.{eq-eqb, ne-eqb}
 use Rattle.flow.specs.Net.{on, sum, steps, Down, OnLoop}
 use Rattle.flow.proofs.Sum.{same, sum-ext, sum-delta}
-use Rattle.flow.proofs.Walk.{steps-add, steps-suc, steps-cut, down-of, down-short}
+use Rattle.flow.proofs.Walk.{steps-add, steps-suc, steps-cut, inside-at, down-of, down-short}
 
 -- a walk from p that is back at p after suc k steps
 module _ (to : ℕ → ℕ) (k p : ℕ) (back : steps to (suc k) p ≡ p) where
@@ -66,3 +67,16 @@ round-ends n to out p (l, d) m never =
     let (i, li, e) = down-short n to out p p l d in
     let h : i < m → ⊥ = λ h. never i h e in
     omega arith
+
+module _ (n : ℕ) (to : ℕ → ℕ) (out : (p : ℕ) → n ≤ p → n ≤ to p) (p : ℕ) (on : OnLoop n to p) where
+  -- whoever walks round stays inside
+  pub round-inside : (j : ℕ) → steps to j p < n
+  round-inside j =
+      let (l, (k, back)) = on in
+      let (i, li, e) = first-round to k p back j in
+      let h : steps to i p < n = inside-at n to out p (let m : i ≤ suc k = omega arith in m) (omega arith) in
+      omega arith
+
+-- one step further round
+pub round-on : (to : ℕ → ℕ) (p k : ℕ) {q r : ℕ} → q ≡ steps to (suc k) p → r ≡ to q → r ≡ steps to (suc (k + 1)) p
+round-on to p k e d = d ∙ ap to e ∙ sym (steps-suc to (suc k) p) ∙ ap (λ (m : ℕ). steps to (suc m) p) (sym (add-one k))

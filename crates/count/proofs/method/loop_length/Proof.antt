@@ -6,10 +6,9 @@ use Prim.Native.Nat.{ℕ, suc, _-_, _*_, _<_}
 use borrow.Author.Count.{below-more}
 use Rattle.flow.specs.Net.{steps}
 use Rattle.flow.proofs.LoopLength.{round-length}
-use Rattle.flow.proofs.Round.{round-ends}
+use Rattle.flow.proofs.Round.{round-ends, round-inside, round-on}
 use Rattle.sheet.specs.Sheet.{destOf}
 use Rattle.sheet.proofs.Dest.{dest-beyond}
-use Rattle.count.proofs.Left.{round-inside, round-on}
 use Rattle.sheet.proofs.Places.{laid-area, place-of}
 use Rattle.count.proofs.method.loop_length.Statement.{statement}
 use Rattle.count.proofs.method.loop_length.Tie as tie
