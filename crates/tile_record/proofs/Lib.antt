@@ -1,0 +1,4 @@
+pub mod Puts
+pub mod Each
+pub mod Last
+pub mod Found

@@ -69,7 +69,7 @@ pub fn write_sides(
     tile_col: usize,
 ) -> usize
     requires { ⌜ at + 11 ≤ length (now bytes) ⌝ }
-    ensures { λ r. ⌜ Puts (field 1 (sides rows cols tile_row tile_col)) (now (bytes .entry)) at (now (bytes .exit)) r ⌝ }
+    ensures { λ r. ⌜ Puts (field 1 (sides rows cols «tile_row» «tile_col»)) (now (bytes .entry)) at (now (bytes .exit)) r ⌝ }
 {
     let next = put_head(bytes, at, 1, 8);
     put_sides(bytes, next, rows, cols, tile_row, tile_col)

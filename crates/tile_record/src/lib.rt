@@ -45,7 +45,7 @@ pub fn write_record(
     work1: &mut [u32],
     work2: &mut [u32],
 ) -> RecordReply
-    ensures { λ r. ⌜ RecordPromise rows cols tile_row tile_col (now (grid .entry)) (now (bytes .entry)) (now (work1 .entry)) (now (work2 .entry)) (ends (recordReply r) (now (bytes .exit)) (now (work1 .exit)) (now (work2 .exit))) ⌝ }
+    ensures { λ r. ⌜ RecordPromise rows cols «tile_row» «tile_col» (now (grid .entry)) (now (bytes .entry)) (now (work1 .entry)) (now (work2 .entry)) (ends (recordReply r) (now (bytes .exit)) (now (work1 .exit)) (now (work2 .exit))) ⌝ }
 {
     let TileMade::Fits(t) = Tile::make(rows, cols) else {
         return RecordReply::Shape;
@@ -85,7 +85,7 @@ fn record_cells(
 ) -> RecordReply
     requires { ⌜ TileShape rows cols ⌝ }
     requires { ⌜ RecordLengths rows cols (now grid) (now bytes) (now work1) (now work2) ⌝ }
-    ensures { λ r. ⌜ RecordCells rows cols tile_row tile_col (now (grid .entry)) (now (bytes .entry)) (now (work1 .entry)) (now (work2 .entry)) (ends (recordReply r) (now (bytes .exit)) (now (work1 .exit)) (now (work2 .exit))) ⌝ }
+    ensures { λ r. ⌜ RecordCells rows cols «tile_row» «tile_col» (now (grid .entry)) (now (bytes .entry)) (now (work1 .entry)) (now (work2 .entry)) (ends (recordReply r) (now (bytes .exit)) (now (work1 .exit)) (now (work2 .exit))) ⌝ }
 {
     if let Found::At(p) = first_bad_code(grid) {
         return RecordReply::Code(p);
@@ -110,7 +110,7 @@ fn record_counted(
     requires { ⌜ TileShape rows cols ⌝ }
     requires { ⌜ RecordLengths rows cols (now grid) (now bytes) (now work1) (now work2) ⌝ }
     requires { ⌜ Counting rows cols (now grid) [] (now work1) (rows * cols) ⌝ }
-    ensures { λ r. ⌜ RecordAnswer rows cols tile_row tile_col (now (grid .entry)) (now (bytes .entry)) (ends (recordReply r) (now (bytes .exit)) (now (work1 .exit)) (now (work2 .exit))) ⌝ }
+    ensures { λ r. ⌜ RecordAnswer rows cols «tile_row» «tile_col» (now (grid .entry)) (now (bytes .entry)) (ends (recordReply r) (now (bytes .exit)) (now (work1 .exit)) (now (work2 .exit))) ⌝ }
 {
     match first_left(grid, work1) {
         Found::At(place) => {
@@ -143,7 +143,7 @@ fn write_fields(
     requires { ⌜ FreeTile rows cols (now grid) × (length (now counts) ≡ rows * cols) ⌝ }
     requires { ⌜ length (now bytes) ≡ recordLength rows cols ⌝ }
     requires { ⌜ now known ≡ cleared rows cols ⌝ }
-    ensures { λ _. ⌜ now (bytes .exit) ≡ recordBytes rows cols tile_row tile_col (now (grid .entry)) (now (counts .entry)) ⌝ }
+    ensures { λ _. ⌜ now (bytes .exit) ≡ recordBytes rows cols «tile_row» «tile_col» (now (grid .entry)) (now (counts .entry)) ⌝ }
 {
     let second = write_sides(bytes, 0, rows, cols, tile_row, tile_col);
     let third = write_counts(bytes, second, rows, cols, counts);
