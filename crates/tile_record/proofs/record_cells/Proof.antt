@@ -1,12 +1,16 @@
+-- `tile_record::record_cells` meets its contract: a bad code, or what is said once the tile is counted.
+-- Assumes nothing.
+use mathlib.Core.Path.{_≡_, refl, ap, _∙_}
+use Prim.Native.Nat.{ℕ}
+use native.Mathlib.Omega.{arith}
+use lib.ListN.{length, replicate, length-replicate}
+use Rattle.promise.specs.Links.UnlessAll.{refused-at, met-all}
+use Rattle.sheet.proofs.Places.{laid-of}
+use Rattle.count.proofs.Scan.{plain-fits}
+use Rattle.tile_record.proofs.Answers.{cleared-is}
 use borrow.Author.Needs.{needs}
 use Rattle.tile_record.proofs.record_cells.Statement.{statement}
 use Rattle.tile_record.proofs.record_cells.Tie as tie
-use Rattle.tile_record.proofs.record_cells.Reads as reads
-use Rattle.tile_record.proofs.record_cells.Lts as lts
-use Rattle.count.proofs.method.scan.Reads as scan-reads
-use Rattle.sheet.proofs.totals.clear.Reads as clear-reads
-use Rattle.sheet.proofs.totals.first_bad_code.Reads as first-bad-code-reads
-use Rattle.tile_record.proofs.record_counted.Reads as record-counted-reads
 
 first-bad-code-requires : tie.Need-first-bad-code-requires
 first-bad-code-requires c κs = search needs
@@ -15,7 +19,10 @@ enum-known-p : tie.Need-enum-known-p
 enum-known-p c = search needs
 
 returns : tie.Need-returns
-returns c = ?
+returns c =
+    let s = c .before .before .before .before .before .before .before .before in
+    let a = s .args in
+    refused-at _ (rw (s .pre .1 .grid-long) at (rw (c .before .p .given .1) at (c .before .before .before .first-bad-code .ensures))) refl
 
 enum-told : tie.Need-enum-told
 enum-told c = search needs
@@ -27,10 +34,18 @@ slice-aggregate-scan : tie.Need-slice-aggregate-scan
 slice-aggregate-scan c = search needs
 
 scan-requires : tie.Need-scan-requires
-scan-requires c κs = ?
+scan-requires c κs =
+    let s = c .before .before .before .before .before .before .before .before .before .before .before .before .before in
+    let a = s .args in
+    let zeros = cleared-is (a .rows) (a .cols) (c .before .before .before .before .clear .ensures) (s .pre .1 .work1-long) in
+    let laid = laid-of (s .pre .0) (omega arith) (s .pre .1 .grid-long) (ap length zeros ∙ length-replicate _ 0) in
+    (laid, (zeros, plain-fits laid))
 
 record-counted-requires : tie.Need-record-counted-requires
-record-counted-requires c κs = ?
+record-counted-requires c κs =
+    let s = c .before .before .before .before .before .before .before .before .before .before .before .before .before .before .before .before .before .before .before in
+    let counted = c .before .before .before .before .before .scan .ensures .0 in
+    (s .pre .0, (record { grid-long = s .pre .1 .grid-long; bytes-long = s .pre .1 .bytes-long; work1-long = counted .long; work2-long = s .pre .1 .work2-long }, counted))
 
 same-length : tie.Need-same-length
 same-length c = search needs
@@ -42,7 +57,9 @@ same-length-3 : tie.Need-same-length-3
 same-length-3 c = search needs
 
 returns-2 : tie.Need-returns-2
-returns-2 c = ?
+returns-2 c =
+    let s = c .before .before .before .before .before .before .before .before .before .before .before .before .before .before .before .before .before .before .before .before .before .before .before .before .before .before in
+    met-all (rw (s .pre .1 .grid-long) at (rw (c .before .before .before .before .before .before .before .before .before .before .before .before .before .before .before .before .before .before .before .enum-told .given .1) at (c .before .before .before .before .before .before .before .before .before .before .before .before .before .before .before .before .before .before .before .before .before .first-bad-code .ensures))) (c .before .before .before .before .before .before .record-counted .ensures)
 
 pub record-cells-spec : {M : Type 1} → statement M
 record-cells-spec =

@@ -1,12 +1,15 @@
+-- `tile_record::record_counted` meets its contract: a land cell is left, or none.
+-- Assumes nothing.
+use mathlib.Core.Path.{_≡_, _∙_, ap}
+use Prim.Native.Nat.{_*_}
+use native.Mathlib.Omega.{arith}
+use lib.ListN.{length}
+use Rattle.sheet.proofs.Places.{laid-of}
+use Rattle.count.proofs.Answers.{left-on-loop}
+use Rattle.tile_record.proofs.Answers.{cleared-is, answers-loop, free-tile, answers-done}
 use borrow.Author.Needs.{needs}
 use Rattle.tile_record.proofs.record_counted.Statement.{statement}
 use Rattle.tile_record.proofs.record_counted.Tie as tie
-use Rattle.tile_record.proofs.record_counted.Reads as reads
-use Rattle.tile_record.proofs.record_counted.Lts as lts
-use Rattle.count.proofs.method.first_left.Reads as first-left-reads
-use Rattle.count.proofs.method.loop_length.Reads as loop-length-reads
-use Rattle.sheet.proofs.totals.clear.Reads as clear-reads
-use Rattle.tile_record.proofs.write_fields.Reads as write-fields-reads
 
 first-left-requires : tie.Need-first-left-requires
 first-left-requires c κs = search needs
@@ -15,7 +18,12 @@ enum-known-place : tie.Need-enum-known-place
 enum-known-place c = search needs
 
 loop-length-requires : tie.Need-loop-length-requires
-loop-length-requires c κs = ?
+loop-length-requires c κs =
+    let s = c .before .before .before .before .before .before .before .before .before in
+    let a = s .args in (
+      laid-of (s .pre .0) (omega arith) (s .pre .1 .0 .grid-long) (s .pre .1 .0 .grid-long),
+      left-on-loop (a .rows) (a .cols) (a .grid .now) (a .work1 .now) (s .pre .1 .0 .grid-long) (s .pre .1 .1) (rw (c .before .place .given .1) at (c .before .before .before .first-left .ensures)),
+    )
 
 clear-requires : tie.Need-clear-requires
 clear-requires c κs = search needs
@@ -30,7 +38,10 @@ clear-requires-3 : tie.Need-clear-requires-3
 clear-requires-3 c κs = search needs
 
 write-fields-requires : tie.Need-write-fields-requires
-write-fields-requires c κs = ?
+write-fields-requires c κs =
+    let s = c .before .before .before .before .before .before .before .before .before .before .before .before .before .before .before in
+    let a = s .args in
+    ((free-tile (a .rows) (a .cols) (a .tile-row) (a .tile-col) (a .grid .now) (a .work1 .now) (s .pre .1 .0 .grid-long) (s .pre .1 .1) (rw (c .before .before .before .before .before .before .before .enum-told .given .1) at (c .before .before .before .before .before .before .before .before .before .first-left .ensures)) (s .pre .0), s .pre .1 .0 .work1-long), (s .pre .1 .0 .bytes-long, cleared-is (a .rows) (a .cols) (c .before .before .before .before .before .clear3 .ensures) (s .pre .1 .0 .work2-long)))
 
 clear-requires-4 : tie.Need-clear-requires-4
 clear-requires-4 c κs = search needs
@@ -45,7 +56,10 @@ same-length-2 : tie.Need-same-length-2
 same-length-2 c = search needs
 
 returns : tie.Need-returns
-returns c = ?
+returns c =
+    let s = c .before .before .before .before .before .before .before .before .before .before .before .before .before .before .before .before .before .before in
+    let a = s .args in
+    answers-loop (a .rows) (a .cols) (a .tile-row) (a .tile-col) (a .grid .now) (a .work1 .now) (s .pre .1 .0 .grid-long) (s .pre .1 .1) (rw (c .before .before .before .before .before .before .before .before .before .before .place .given .1) at (c .before .before .before .before .before .before .before .before .before .before .before .before .first-left .ensures)) (c .before .before .before .before .before .before .before .before .loop-length .ensures) (cleared-is (a .rows) (a .cols) (c .before .before .before .before .before .before .clear .ensures) (s .pre .1 .0 .work1-long)) (cleared-is (a .rows) (a .cols) (c .before .before .clear2 .ensures) (s .pre .1 .0 .work2-long))
 
 same-length-3 : tie.Need-same-length-3
 same-length-3 c = search needs
@@ -57,7 +71,11 @@ same-length-5 : tie.Need-same-length-5
 same-length-5 c = search needs
 
 returns-2 : tie.Need-returns-2
-returns-2 c = ?
+returns-2 c =
+    let s = c .before .before .before .before .before .before .before .before .before .before .before .before .before .before .before .before .before .before .before .before .before .before .before .before .before .before .before .before in
+    let a = s .args in
+    let long : length (c .before .before .before .before .before .before .before .before .before .before .before .before .write-fields .last .1 .1 .1 .1 .1 .1 .1 .0) ≡ a .rows * a .cols = search needs in
+    answers-done (a .rows) (a .cols) (a .tile-row) (a .tile-col) (a .grid .now) (a .work1 .now) (s .pre .1 .0 .grid-long) (s .pre .1 .1) (rw (c .before .before .before .before .before .before .before .before .before .before .before .before .before .before .before .before .before .before .before .before .enum-told .given .1) at (c .before .before .before .before .before .before .before .before .before .before .before .before .before .before .before .before .before .before .before .before .before .before .first-left .ensures)) (c .before .before .before .before .before .before .before .before .before .before .before .before .write-fields .ensures) (cleared-is (a .rows) (a .cols) (c .before .before .before .before .before .before .clear4 .ensures) (s .pre .1 .0 .work1-long)) (cleared-is (a .rows) (a .cols) (c .before .before .clear5 .ensures) long)
 
 pub record-counted-spec : {M : Type 1} → statement M
 record-counted-spec =

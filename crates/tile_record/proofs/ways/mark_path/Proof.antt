@@ -82,8 +82,7 @@ loop-again c =
     let s = c .before .before .before .before .before .before .before in
     let a = s .args in
     let m = c .before .before .before .before .loop .inv in
-    let cell = cell-on (c .before .before .before .before .before .before .before .pre .0 .1) (c .before .before .before .loop-test .taken) (c .before .before .before .before .loop .inv .1) in
-    (
+    let cell = cell-on (c .before .before .before .before .before .before .before .pre .0 .1) (c .before .before .before .loop-test .taken) (c .before .before .before .before .loop .inv .1) in (
       c .dest-at .ensures .row-le,
       c .dest-at .ensures .col-in,
       λ l. ap (λ (x : ℕ). x + 1) (next-last (a .rows) (a .cols) (a .grid .now) (s .pre .0 .0) (c .before .before .before .before .loop .row) (c .before .before .before .before .loop .col) cell (c .dest-at .result) (c .dest-at .ensures) l) ∙ m .2 (c .before .before .before .loop-test .taken),
