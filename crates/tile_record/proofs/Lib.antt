@@ -6,3 +6,4 @@ pub mod Whole
 pub mod Answers
 pub mod One
 pub mod Cases
+pub mod Read

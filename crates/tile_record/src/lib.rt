@@ -5,7 +5,7 @@ pub mod ways;
 ghost use mathlib.Core.List.{[]};
 ghost use mathlib.Core.Path.{_≡_};
 ghost use Prim.Native.Nat.{_*_};
-ghost use lib.ListN.{length};
+ghost use lib.ListN.{length, replicate};
 ghost use Rattle.sheet.specs.Shape.{TileShape};
 ghost use Rattle.count.specs.Method.{Counting};
 ghost use Rattle.tile_record.specs.Bytes.{recordBytes};
@@ -115,18 +115,25 @@ fn record_counted(
     match first_left(grid, work1) {
         Found::At(place) => {
             let length = loop_length(rows, cols, grid, place);
-            clear(work1);
-            clear(work2);
+            clear_both(work1, work2);
             RecordReply::Loop { place, length }
         }
         Found::Nothing => {
             clear(work2);
             write_fields(rows, cols, tile_row, tile_col, grid, work1, bytes, work2);
-            clear(work1);
-            clear(work2);
+            clear_both(work1, work2);
             RecordReply::Done
         }
     }
+}
+
+// Clears both work buffers.
+fn clear_both(first: &mut [u32], second: &mut [u32])
+    ensures { λ _. ⌜ now (first .exit) ≡ replicate (length (now (first .entry))) 0 ⌝ }
+    ensures { λ _. ⌜ now (second .exit) ≡ replicate (length (now (second .entry))) 0 ⌝ }
+{
+    clear(first);
+    clear(second);
 }
 
 // Writes the three fields of a tile without loops.

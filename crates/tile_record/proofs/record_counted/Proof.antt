@@ -25,29 +25,23 @@ loop-length-requires c κs =
       left-on-loop (a .rows) (a .cols) (a .grid .now) (a .work1 .now) (s .pre .1 .0 .grid-long) (s .pre .1 .1) (rw (c .before .place .given .1) at (c .before .before .before .first-left .ensures)),
     )
 
-clear-requires : tie.Need-clear-requires
-clear-requires c κs = search needs
-
-clear-requires-2 : tie.Need-clear-requires-2
-clear-requires-2 c κs = search needs
+clear-both-requires : tie.Need-clear-both-requires
+clear-both-requires c κs = search needs
 
 enum-told : tie.Need-enum-told
 enum-told c = search needs
 
-clear-requires-3 : tie.Need-clear-requires-3
-clear-requires-3 c κs = search needs
+clear-requires : tie.Need-clear-requires
+clear-requires c κs = search needs
 
 write-fields-requires : tie.Need-write-fields-requires
 write-fields-requires c κs =
     let s = c .before .before .before .before .before .before .before .before .before .before .before .before .before .before .before in
     let a = s .args in
-    ((free-tile (a .rows) (a .cols) (a .tile-row) (a .tile-col) (a .grid .now) (a .work1 .now) (s .pre .1 .0 .grid-long) (s .pre .1 .1) (rw (c .before .before .before .before .before .before .before .enum-told .given .1) at (c .before .before .before .before .before .before .before .before .before .first-left .ensures)) (s .pre .0), s .pre .1 .0 .work1-long), (s .pre .1 .0 .bytes-long, cleared-is (a .rows) (a .cols) (c .before .before .before .before .before .clear3 .ensures) (s .pre .1 .0 .work2-long)))
+    ((free-tile (a .rows) (a .cols) (a .tile-row) (a .tile-col) (a .grid .now) (a .work1 .now) (s .pre .1 .0 .grid-long) (s .pre .1 .1) (rw (c .before .before .before .before .before .before .before .enum-told .given .1) at (c .before .before .before .before .before .before .before .before .before .first-left .ensures)) (s .pre .0), s .pre .1 .0 .work1-long), (s .pre .1 .0 .bytes-long, cleared-is (a .rows) (a .cols) (c .before .before .before .before .before .clear .ensures) (s .pre .1 .0 .work2-long)))
 
-clear-requires-4 : tie.Need-clear-requires-4
-clear-requires-4 c κs = search needs
-
-clear-requires-5 : tie.Need-clear-requires-5
-clear-requires-5 c κs = search needs
+clear-both-requires-2 : tie.Need-clear-both-requires-2
+clear-both-requires-2 c κs = search needs
 
 same-length : tie.Need-same-length
 same-length c = search needs
@@ -57,9 +51,9 @@ same-length-2 c = search needs
 
 returns : tie.Need-returns
 returns c =
-    let s = c .before .before .before .before .before .before .before .before .before .before .before .before .before .before .before .before .before .before in
+    let s = c .before .before .before .before .before .before .before .before .before .before .before .before .before .before .before .before .before in
     let a = s .args in
-    answers-loop (a .rows) (a .cols) (a .tile-row) (a .tile-col) (a .grid .now) (a .work1 .now) (s .pre .1 .0 .grid-long) (s .pre .1 .1) (rw (c .before .before .before .before .before .before .before .before .before .before .place .given .1) at (c .before .before .before .before .before .before .before .before .before .before .before .before .first-left .ensures)) (c .before .before .before .before .before .before .before .before .loop-length .ensures) (cleared-is (a .rows) (a .cols) (c .before .before .before .before .before .before .clear .ensures) (s .pre .1 .0 .work1-long)) (cleared-is (a .rows) (a .cols) (c .before .before .clear2 .ensures) (s .pre .1 .0 .work2-long))
+    answers-loop (a .rows) (a .cols) (a .tile-row) (a .tile-col) (a .grid .now) (a .work1 .now) (s .pre .1 .0 .grid-long) (s .pre .1 .1) (rw (c .before .before .before .before .before .before .before .before .before .place .given .1) at (c .before .before .before .before .before .before .before .before .before .before .before .first-left .ensures)) (c .before .before .before .before .before .before .before .loop-length .ensures) (cleared-is (a .rows) (a .cols) (c .before .before .before .before .clear-both .ensures .0) (s .pre .1 .0 .work1-long)) (cleared-is (a .rows) (a .cols) (c .before .before .before .before .clear-both .ensures .1) (s .pre .1 .0 .work2-long))
 
 same-length-3 : tie.Need-same-length-3
 same-length-3 c = search needs
@@ -72,10 +66,10 @@ same-length-5 c = search needs
 
 returns-2 : tie.Need-returns-2
 returns-2 c =
-    let s = c .before .before .before .before .before .before .before .before .before .before .before .before .before .before .before .before .before .before .before .before .before .before .before .before .before .before .before .before in
+    let s = c .before .before .before .before .before .before .before .before .before .before .before .before .before .before .before .before .before .before .before .before .before .before .before .before .before .before .before in
     let a = s .args in
-    let long : length (c .before .before .before .before .before .before .before .before .before .before .before .before .write-fields .last .1 .1 .1 .1 .1 .1 .1 .0) ≡ a .rows * a .cols = search needs in
-    answers-done (a .rows) (a .cols) (a .tile-row) (a .tile-col) (a .grid .now) (a .work1 .now) (s .pre .1 .0 .grid-long) (s .pre .1 .1) (rw (c .before .before .before .before .before .before .before .before .before .before .before .before .before .before .before .before .before .before .before .before .enum-told .given .1) at (c .before .before .before .before .before .before .before .before .before .before .before .before .before .before .before .before .before .before .before .before .before .before .first-left .ensures)) (c .before .before .before .before .before .before .before .before .before .before .before .before .write-fields .ensures) (cleared-is (a .rows) (a .cols) (c .before .before .before .before .before .before .clear4 .ensures) (s .pre .1 .0 .work1-long)) (cleared-is (a .rows) (a .cols) (c .before .before .clear5 .ensures) long)
+    let long : length (c .before .before .before .before .before .before .before .before .before .before .before .write-fields .last .1 .1 .1 .1 .1 .1 .1 .0) ≡ a .rows * a .cols = search needs in
+    answers-done (a .rows) (a .cols) (a .tile-row) (a .tile-col) (a .grid .now) (a .work1 .now) (s .pre .1 .0 .grid-long) (s .pre .1 .1) (rw (c .before .before .before .before .before .before .before .before .before .before .before .before .before .before .before .before .before .before .before .enum-told .given .1) at (c .before .before .before .before .before .before .before .before .before .before .before .before .before .before .before .before .before .before .before .before .before .first-left .ensures)) (c .before .before .before .before .before .before .before .before .before .before .before .write-fields .ensures) (cleared-is (a .rows) (a .cols) (c .before .before .before .before .clear-both2 .ensures .0) (s .pre .1 .0 .work1-long)) (cleared-is (a .rows) (a .cols) (c .before .before .before .before .clear-both2 .ensures .1) long)
 
 pub record-counted-spec : {M : Type 1} → statement M
 record-counted-spec =
@@ -84,13 +78,11 @@ record-counted-spec =
     first-left-requires
     enum-known-place
     loop-length-requires
-    clear-requires
-    clear-requires-2
+    clear-both-requires
     enum-told
-    clear-requires-3
+    clear-requires
     write-fields-requires
-    clear-requires-4
-    clear-requires-5
+    clear-both-requires-2
     same-length
     same-length-2
     returns
