@@ -2,6 +2,7 @@
 ghost use mathlib.Core.Path.{_≡_};
 ghost use Rattle.promise.specs.Reply.{Reply};
 ghost use Rattle.tile_finish.specs.Finish.{FinishPromise, ends as finish-ends};
+ghost use Rattle.tile_record.specs.Record.{RecordPromise, ends as record-ends};
 ghost use Rattle.tile.specs.Border.{borderCells};
 ghost use Rattle.drainage.specs.Flat.{flat};
 ghost use Rattle.drainage.specs.Lengths.{InTile, cells};
@@ -11,6 +12,7 @@ use sheet::shape::Tile;
 use sheet::shape::TileMade;
 use tile::border::border_cells;
 use tile_finish::FinishReply;
+use tile_record::RecordReply;
 
 // The number of cells of a tile, and 0 where the shape is none.
 fn tile_cells(rows: usize, cols: usize) -> usize
@@ -44,6 +46,29 @@ pub extern "C" fn drainage_record_work2(rows: usize, cols: usize) -> usize
     ensures { λ r. ⌜ InTile rows cols (cells rows cols) r ⌝ }
 {
     tile_cells(rows, cols)
+}
+
+#[no_mangle]
+pub extern "C" fn drainage_record(
+    rows: usize,
+    cols: usize,
+    tile_row: usize,
+    tile_col: usize,
+    grid: &[u8],
+    bytes: &mut [u8],
+    work1: &mut [u32],
+    work2: &mut [u32],
+) -> Flat
+    ensures { λ r. ⌜ ((s : Reply) × RecordPromise rows cols «tile_row» «tile_col» (now (grid .entry)) (now (bytes .entry)) (now (work1 .entry)) (now (work2 .entry)) (record-ends s (now (bytes .exit)) (now (work1 .exit)) (now (work2 .exit))) × (r ≡ flat s)) ⌝ }
+{
+    match tile_record::write_record(rows, cols, tile_row, tile_col, grid, bytes, work1, work2) {
+        RecordReply::Done => replied(0, 0, 0, 0),
+        RecordReply::Shape => replied(1, 0, 0, 0),
+        RecordReply::Layout => replied(9, 0, 0, 0),
+        RecordReply::Length => replied(2, 0, 0, 0),
+        RecordReply::Code(place) => replied(3, place as u64, 0, 0),
+        RecordReply::Loop { place, length } => replied(4, place as u64, length as u64, 0),
+    }
 }
 
 #[no_mangle]

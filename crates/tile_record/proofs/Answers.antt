@@ -29,7 +29,7 @@ module _ (rows cols tileRow tileCol : ℕ) (g c : List ℕ) (long : length g ≡
   pub answers-loop : {p len : ℕ} {bytes w1 w2 : List ℕ} → FirstNot (length g) (NotLeft g c) p → len ≡ loopLength (rows * cols) (destOf rows cols g) p
       → w1 ≡ cleared rows cols → w2 ≡ cleared rows cols → RecordAnswer rows cols tileRow tileCol g bytes (ends (reply 4 (p ∷ len ∷ [])) bytes w1 w2)
   answers-loop {p} {len} {bytes} first e a b =
-      refused-with (record { place = p; len = len }) (rw e (left-first rows cols g c long s first)) (λ i. ends (reply 4 (p ∷ len ∷ [])) bytes (a i) (b i))
+      refused-with (record { place = p; len = len }) (rw e (left-first rows cols g [] c long s first)) (λ i. ends (reply 4 (p ∷ len ∷ [])) bytes (a i) (b i))
 
   -- none is left
   module _ (none : (q : ℕ) → q < length g → NotLeft g c q) where

@@ -1,5 +1,6 @@
 -- `tile_record::record_counted` meets its contract: a land cell is left, or none.
 -- Assumes nothing.
+use mathlib.Core.List.{[]}
 use mathlib.Core.Path.{_≡_, _∙_, ap}
 use Prim.Native.Nat.{_*_}
 use native.Mathlib.Omega.{arith}
@@ -22,7 +23,7 @@ loop-length-requires c κs =
     let s = c .before .before .before .before .before .before .before .before .before in
     let a = s .args in (
       laid-of (s .pre .0) (omega arith) (s .pre .1 .0 .grid-long) (s .pre .1 .0 .grid-long),
-      left-on-loop (a .rows) (a .cols) (a .grid .now) (a .work1 .now) (s .pre .1 .0 .grid-long) (s .pre .1 .1) (rw (c .before .place .given .1) at (c .before .before .before .first-left .ensures)),
+      left-on-loop (a .rows) (a .cols) (a .grid .now) [] (a .work1 .now) (s .pre .1 .0 .grid-long) (s .pre .1 .1) (rw (c .before .place .given .1) at (c .before .before .before .first-left .ensures)),
     )
 
 clear-both-requires : tie.Need-clear-both-requires
