@@ -127,13 +127,18 @@ fn record_counted(
     }
 }
 
-// Clears both work buffers.
+// Clears both work buffers, which are of one length.
 fn clear_both(first: &mut [u32], second: &mut [u32])
+    requires { ⌜ length (now first) ≡ length (now second) ⌝ }
     ensures { λ _. ⌜ now (first .exit) ≡ replicate (length (now (first .entry))) 0 ⌝ }
     ensures { λ _. ⌜ now (second .exit) ≡ replicate (length (now (second .entry))) 0 ⌝ }
 {
-    clear(first);
-    clear(second);
+    let mut i = 0;
+    while i < first.len() {
+        first[i] = 0;
+        second[i] = 0;
+        i += 1;
+    }
 }
 
 // Writes the three fields of a tile without loops.

@@ -52,7 +52,7 @@ loop-again c =
     let m = c .before .before .before .before .before .loop .inv in
     let l = c .before .before .before .before .loop-test .taken in
     let e = c .before .before .before .before .before .before .border-cells .ensures in
-    (omega arith, puts-is (sym (each-next (λ i. borderCount (a .rows) (a .cols) (a .counts .now) i) (c .before .before .before .before .before .loop .b))) (puts-then (m .1) (c .before .before .put-count .ensures)))
+    (omega arith, puts-is (sym (each-next (λ i. borderCount (a .rows) (a .cols) (a .counts .now) i) (c .before .before .before .before .before .loop .b))) (puts-then {b = borderCount (a .rows) (a .cols) (a .counts .now) (c .before .before .before .before .before .loop .b)} (m .1) (c .before .before .put-count .ensures)))
 
 same-length : tie.Need-same-length Inv-loop μ-loop
 same-length c =

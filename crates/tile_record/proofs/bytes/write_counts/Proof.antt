@@ -3,6 +3,7 @@
 use mathlib.Core.Path.{_≡_, sym, ap, _∙_}
 use native.Mathlib.Omega.{arith}
 use Rattle.tile.specs.Border.{borderCells}
+use Rattle.tile_record.specs.Bytes.{each, borderCount}
 use Rattle.tile_record.proofs.Each.{counts-long}
 use Rattle.tile_record.proofs.Puts.{puts-field}
 use borrow.Author.Needs.{needs}
@@ -27,7 +28,7 @@ same-length c = search needs
 returns : tie.Need-returns
 returns c =
     let a = c .before .before .before .before .before .before .before .before .before .before .before .args in
-    puts-field (omega (arith, c .before .before .before .before .before .before .before .border-cells .ensures, counts-long (a .rows) (a .cols) (a .counts .now) (borderCells (a .rows) (a .cols)))) (c .before .before .before .before .before .before .put-head .ensures) (c .before .before .put-counts .ensures)
+    puts-field {contents = each (borderCells (a .rows) (a .cols)) (λ i. borderCount (a .rows) (a .cols) (a .counts .now) i)} (omega (arith, c .before .before .before .before .before .before .before .border-cells .ensures, counts-long (a .rows) (a .cols) (a .counts .now) (borderCells (a .rows) (a .cols)))) (c .before .before .before .before .before .before .put-head .ensures) (c .before .before .put-counts .ensures)
 
 pub write-counts-spec : {M : Type 1} → statement M
 write-counts-spec =

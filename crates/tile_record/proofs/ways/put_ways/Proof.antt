@@ -53,7 +53,7 @@ loop-again c =
     let m = c .before .before .before .before .before .before .before .before .loop .inv in
     let l = c .before .before .before .before .before .before .before .loop-test .taken in
     let e = c .before .before .before .before .before .before .before .before .before .border-cells .ensures in
-    (omega arith, puts-is (sym (each-next (λ i. wayBytes (borderWay (a .rows) (a .cols) (a .grid .now) i)) (c .before .before .before .before .before .before .before .before .loop .b))) (puts-then (m .1) (c .before .before .before .before .put-way .ensures .0)), c .before .before .before .before .put-way .ensures .1)
+    (omega arith, puts-is (sym (each-next (λ i. wayBytes (borderWay (a .rows) (a .cols) (a .grid .now) i)) (c .before .before .before .before .before .before .before .before .loop .b))) (puts-then {b = wayBytes (borderWay (a .rows) (a .cols) (a .grid .now) (c .before .before .before .before .before .before .before .before .loop .b))} (m .1) (c .before .before .before .before .put-way .ensures .0)), c .before .before .before .before .put-way .ensures .1)
 
 same-length : tie.Need-same-length Inv-loop μ-loop
 same-length c =

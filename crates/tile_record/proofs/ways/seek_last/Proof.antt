@@ -62,19 +62,19 @@ returns : tie.Need-returns Inv-loop μ-loop
 returns c =
     let s = c .before .before .before .before .before .before .before .before in
     let a = s .args in
-    omega (arith, c .before .before .before .before .before .loop .inv .1, ends-last (a .rows) (a .cols) (a .grid .now) (s .pre .0 .0) (c .before .before .before .before .before .loop .row) (c .before .before .before .before .before .loop .col) (c .before .before .before .before .before .loop .inv .0) (c .before .before .dest-at .result) (c .before .before .dest-at .ensures) (c .if2 .taken))
+    omega (arith, c .before .before .before .before .before .loop .inv .1, ends-last (a .rows) (a .cols) (a .grid .now) (s .pre .0 .0) (c .before .before .before .before .before .loop .row) (c .before .before .before .before .before .loop .col) (c .before .before .before .before .before .loop .inv .0) (c .before .before .dest-at .result) (c .before .before .dest-at .ensures) (omega (arith, c .if2 .taken)))
 
 loop-less : tie.Need-loop-less Inv-loop μ-loop
 loop-less c =
     let s = c .before .before .before .before .before .before .before .before in
     let a = s .args in
-    next-less (a .rows) (a .cols) (a .grid .now) (s .pre .0 .0) (c .before .before .before .before .before .loop .row) (c .before .before .before .before .before .loop .col) (c .before .before .before .before .before .loop .inv .0) (c .before .before .dest-at .result) (c .before .before .dest-at .ensures) (c .if2 .left)
+    next-less (a .rows) (a .cols) (a .grid .now) (s .pre .0 .0) (c .before .before .before .before .before .loop .row) (c .before .before .before .before .before .loop .col) (c .before .before .before .before .before .loop .inv .0) (c .before .before .dest-at .result) (c .before .before .dest-at .ensures) (omega (arith, c .if2 .left))
 
 loop-again : tie.Need-loop-again Inv-loop μ-loop
 loop-again c =
     let s = c .before .before .before .before .before .before .before .before in
     let a = s .args in
-    (next-cell (a .rows) (a .cols) (a .grid .now) (s .pre .0 .0) (c .before .before .before .before .before .loop .row) (c .before .before .before .before .before .loop .col) (c .before .before .before .before .before .loop .inv .0) (c .before .before .dest-at .result) (c .before .before .dest-at .ensures) (c .if2 .left), next-last (a .rows) (a .cols) (a .grid .now) (s .pre .0 .0) (c .before .before .before .before .before .loop .row) (c .before .before .before .before .before .loop .col) (c .before .before .before .before .before .loop .inv .0) (c .before .before .dest-at .result) (c .before .before .dest-at .ensures) (c .if2 .left) ∙ c .before .before .before .before .before .loop .inv .1)
+    (next-cell (a .rows) (a .cols) (a .grid .now) (s .pre .0 .0) (c .before .before .before .before .before .loop .row) (c .before .before .before .before .before .loop .col) (c .before .before .before .before .before .loop .inv .0) (c .before .before .dest-at .result) (c .before .before .dest-at .ensures) (omega (arith, c .if2 .left)), next-last (a .rows) (a .cols) (a .grid .now) (s .pre .0 .0) (c .before .before .before .before .before .loop .row) (c .before .before .before .before .before .loop .col) (c .before .before .before .before .before .loop .inv .0) (c .before .before .dest-at .result) (c .before .before .dest-at .ensures) (omega (arith, c .if2 .left)) ∙ c .before .before .before .before .before .loop .inv .1)
 
 mul-result-2 : tie.Need-mul-result-2 Inv-loop μ-loop
 mul-result-2 c =

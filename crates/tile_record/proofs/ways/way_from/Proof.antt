@@ -33,19 +33,19 @@ returns : tie.Need-returns
 returns c =
     let s = c .before .before .before .before in
     let a = s .args in
-    found-inside (a .rows) (a .cols) (a .grid .now) (a .r) (a .c) (s .pre .0 .0) (s .pre .0 .1) (s .pre .1) (c .before .beside .ensures) (c .if1 .taken)
+    found-inside (a .rows) (a .cols) (a .grid .now) (a .r) (a .c) (s .pre .0 .0) (s .pre .0 .1) (s .pre .1) (c .before .beside .ensures) (omega (arith, c .if1 .taken))
 
 border-number-requires : tie.Need-border-number-requires
 border-number-requires c κs =
     let s = c .before .before .before .before in
     let a = s .args in
-    (s .pre .0 .0, found-edge (a .rows) (a .cols) (a .grid .now) (a .r) (a .c) (s .pre .0 .0) (s .pre .0 .1) (s .pre .1) (c .before .beside .ensures) (c .if1 .left))
+    (s .pre .0 .0, found-edge (a .rows) (a .cols) (a .grid .now) (a .r) (a .c) (s .pre .0 .0) (s .pre .0 .1) (s .pre .1) (c .before .beside .ensures) (omega (arith, c .if1 .left)))
 
 returns-2 : tie.Need-returns-2
 returns-2 c =
     let s = c .before .before .before .before .before in
     let a = s .args in
-    found-over (a .rows) (a .cols) (a .grid .now) (a .r) (a .c) (s .pre .0 .0) (s .pre .0 .1) (s .pre .1) (c .before .before .beside .ensures) (c .before .if1 .left) (c .border-number .ensures)
+    found-over (a .rows) (a .cols) (a .grid .now) (a .r) (a .c) (s .pre .0 .0) (s .pre .0 .1) (s .pre .1) (c .before .before .beside .ensures) (omega (arith, c .before .if1 .left)) (c .border-number .ensures)
 
 pub way-from-spec : {M : Type 1} → statement M
 way-from-spec =

@@ -3,6 +3,7 @@
 use mathlib.Core.Path.{_≡_, sym, ap, _∙_}
 use native.Mathlib.Omega.{arith}
 use Rattle.tile.specs.Border.{borderCells}
+use Rattle.tile_record.specs.Bytes.{each, borderWay, wayBytes}
 use Rattle.tile_record.proofs.Each.{ways-long}
 use Rattle.tile_record.proofs.Puts.{puts-field}
 use borrow.Author.Needs.{needs}
@@ -30,7 +31,7 @@ same-length-2 c = search needs
 returns : tie.Need-returns
 returns c =
     let a = c .before .before .before .before .before .before .before .before .before .before .before .before .before .before .before .args in
-    puts-field (omega (arith, c .before .before .before .before .before .before .before .before .before .before .border-cells .ensures, ways-long (a .rows) (a .cols) (a .grid .now) (borderCells (a .rows) (a .cols)))) (c .before .before .before .before .before .before .before .before .before .put-head .ensures) (c .before .before .before .before .put-ways .ensures)
+    puts-field {contents = each (borderCells (a .rows) (a .cols)) (λ i. wayBytes (borderWay (a .rows) (a .cols) (a .grid .now) i))} (omega (arith, c .before .before .before .before .before .before .before .before .before .before .border-cells .ensures, ways-long (a .rows) (a .cols) (a .grid .now) (borderCells (a .rows) (a .cols)))) (c .before .before .before .before .before .before .before .before .before .put-head .ensures) (c .before .before .before .before .put-ways .ensures)
 
 pub write-ways-spec : {M : Type 1} → statement M
 write-ways-spec =
