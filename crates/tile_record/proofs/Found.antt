@@ -12,7 +12,7 @@ use Rattle.sheet.specs.Sheet.{codeAt, landAt, stepFrom}
 use Rattle.sheet.proofs.Dest.{code-read, land-read}
 use Rattle.sheet.proofs.Spots.{cell-below}
 use Rattle.tile.specs.Border.{edgeAt, borderNumber}
-use Rattle.tile.specs.Way.{Way, lastCell, crosses, over, endsInside, noWay, wayAt}
+use Rattle.tile.specs.Way.{Way, lastCell, crosses, wayAt}
 use Rattle.tile.proofs.Edge.{border-at}
 use Rattle.tile.proofs.Ways.{crosses-border, steps-out, steps-in, way-absent}
 use Rattle.tile_record.specs.declared.ways.BorderWay.{BorderWay}

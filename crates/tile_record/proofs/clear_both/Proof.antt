@@ -1,8 +1,8 @@
 -- `tile_record::clear_both` meets its contract: zeros up to the place reached, and behind it what was lent.
 -- Assumes nothing.
 use mathlib.Core.List.{_++_, append-nil}
-use mathlib.Core.Path.{_≡_, sym, ap, _∙_}
-use Prim.Native.Nat.{ℕ, _-_, _≤_, _<_}
+use mathlib.Core.Path.{_≡_, _∙_}
+use Prim.Native.Nat.{_-_, _≤_, _<_}
 use native.Mathlib.Omega.{arith}
 use borrow.Author.Fill.{fill-more}
 use lib.ListN.{length, length-set, replicate, drop}

@@ -1,9 +1,8 @@
 -- `tile_record::record_cells` meets its contract: a bad code, or what is said once the tile is counted.
 -- Assumes nothing.
-use mathlib.Core.Path.{_≡_, refl, ap, _∙_}
-use Prim.Native.Nat.{ℕ}
+use mathlib.Core.Path.{refl, ap, _∙_}
 use native.Mathlib.Omega.{arith}
-use lib.ListN.{length, replicate, length-replicate}
+use lib.ListN.{length, length-replicate}
 use Rattle.promise.specs.Links.UnlessAll.{refused-at, met-all}
 use Rattle.sheet.proofs.Places.{laid-of}
 use Rattle.count.proofs.Scan.{plain-fits}

@@ -1,7 +1,6 @@
 -- `tile_record::ways::put_way` meets its contract: the way of the cell at the border cell's place.
 -- Assumes nothing.
 use mathlib.Core.Path.{ap}
-use native.Mathlib.Omega.{arith}
 use Rattle.tile.specs.Way.{wayAt}
 use Rattle.tile_record.proofs.Found.{finds-is, puts-way}
 use Rattle.tile_record.proofs.Last.{tile-cell}

@@ -1,6 +1,5 @@
 -- `tile_record::ways::write_ways` meets its contract: a field of ways.
 -- Assumes nothing.
-use mathlib.Core.Path.{_≡_, sym, ap, _∙_}
 use native.Mathlib.Omega.{arith}
 use Rattle.tile.specs.Border.{borderCells}
 use Rattle.tile_record.specs.Bytes.{each, borderWay, wayBytes}
