@@ -9,7 +9,7 @@ ghost use lib.ListN.{length, replicate};
 ghost use Rattle.sheet.specs.Shape.{TileShape};
 ghost use Rattle.count.specs.Method.{Counting};
 ghost use Rattle.tile_record.specs.Bytes.{recordBytes};
-ghost use Rattle.tile_record.specs.Method.{FreeTile, Known};
+ghost use Rattle.tile_record.specs.Method.{FreeTile};
 ghost use Rattle.tile_record.specs.Record.{RecordPromise, RecordCells, RecordAnswer, RecordLengths, recordLength, recordReply, ends, cleared};
 use crate::bytes::write_counts;
 use crate::bytes::write_sides;
