@@ -1,0 +1,4 @@
+pub mod Records
+pub mod Said
+pub mod Read
+pub mod Method

@@ -1,0 +1,24 @@
+-- What well-formed records say of each border cell g of the mosaic, in the numbering of crate mosaic: its count within its tile, and the border number
+-- and the code of its way.
+-- Assumes nothing.
+use mathlib.Core.List.{List}
+use Prim.Native.Nat.{ℕ}
+use Rattle.mosaic.specs.Layout.{borderTile, borderIn}
+use Rattle.mosaic_read.specs.Records.{heights, widths, countIn, wayIn, codeIn}
+
+module _ (bytes : List ℕ) (I J : ℕ) where
+  -- the record that tells of border cell g, and its number there
+  abbrev pub recordOf : ℕ → ℕ
+  recordOf g = borderTile I J (heights bytes J) (widths bytes) g
+
+  abbrev pub numberIn : ℕ → ℕ
+  numberIn g = borderIn I J (heights bytes J) (widths bytes) g
+
+  unfoldable pub saidCount : ℕ → ℕ
+  saidCount g = countIn bytes (recordOf g) (numberIn g)
+
+  unfoldable pub saidWay : ℕ → ℕ
+  saidWay g = wayIn bytes (recordOf g) (numberIn g)
+
+  unfoldable pub saidCode : ℕ → ℕ
+  saidCode g = codeIn bytes (recordOf g) (numberIn g)
