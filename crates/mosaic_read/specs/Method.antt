@@ -11,7 +11,7 @@ use Rattle.promise.specs.Reply.{Reply}
 use Rattle.promise.specs.Reply.Reply.{reply}
 use Rattle.sheet.specs.Shape.{TileShape}
 use Rattle.tile.specs.Border.{borderCells}
-use Rattle.mosaic_read.specs.Records.{startOf, rowsOf, colsOf, bordersOf, heights, widths, endAt, PartOk}
+use Rattle.mosaic_read.specs.Records.{startOf, rowsOf, colsOf, bordersOf, heights, widths, waysStart, endAt, PartOk}
 use Rattle.mosaic_read.specs.Read.{faultAt}
 
 -- a test says whether P holds
@@ -24,15 +24,26 @@ pub record Whole (bytes : List ℕ) (t : ℕ) : Type 0 where
   pub shape : TileShape (rowsOf bytes t) (colsOf bytes t)
   pub inside : startOf bytes (suc t) ≤ length bytes
 
--- so do all records before record t
+-- so it is with each record before record t
 abbrev pub WholeBefore : List ℕ → ℕ → Type 0
 WholeBefore bytes t = (q : ℕ) → q < t → Whole bytes q
 
--- a record of an allowed tile, with B border cells, that the bytes hold from byte o to its end
-pub record Held (bytes : List ℕ) (o rows cols B : ℕ) : Type 0 where
+-- a tile of rows by cols has B border cells; the last two are laws, for the sake of sums
+pub record TileOf (rows cols B : ℕ) : Type 0 where
   pub shape : TileShape rows cols
   pub borders : B ≡ borderCells rows cols
-  pub inside : endAt o B ≤ length bytes
+  pub most : B ≤ 1020
+  pub cells : rows * cols ≤ 65536
+
+-- record t begins at byte o, and the summed rows and columns of the tile rows above it and the tile columns to its left are within bounds
+pub record Reached (bytes : List ℕ) (J t o above left : ℕ) : Type 0 where
+  pub some-col : 1 ≤ J
+  pub before : WholeBefore bytes t
+  pub start : o ≡ startOf bytes t
+  pub above-is : above ≡ sum (t / J) (heights bytes J)
+  pub left-is : left ≡ sum (t % J) (widths bytes)
+  pub above-most : above ≤ 4096
+  pub left-most : left ≤ 4096
 
 -- what reading record t answers: the number of its border cells, or its first fault
 abbrev pub RecordPromise : (bytes : List ℕ) (J t : ℕ) → Reply → Type 0

@@ -21,7 +21,7 @@ unfoldable pub twoAt : List ℕ → ℕ → ℕ
 twoAt bytes i = byteAt bytes i * 256 + byteAt bytes (i + 1)
 
 unfoldable pub fourAt : List ℕ → ℕ → ℕ
-fourAt bytes i = byteAt bytes i * 16777216 + byteAt bytes (i + 1) * 65536 + byteAt bytes (i + 2) * 256 + byteAt bytes (i + 3)
+fourAt bytes i = twoAt bytes i * 65536 + twoAt bytes (i + 2)
 
 -- ---- a record that begins at byte o, of a tile with B border cells
 
@@ -99,7 +99,7 @@ widths bytes j = colsOf bytes j
 
 -- ---- well formed
 
--- field 1: sides within bounds
+-- of the record that begins at byte o, of a tile of rows by cols with B border cells. Field 1: sides within bounds
 pub record SidesOk (bytes : List ℕ) (o : ℕ) : Type 0 where
   pub inside : countsStart o ≤ length bytes
   pub tag : byteAt bytes o ≡ 1
@@ -115,10 +115,7 @@ pub record PlacedOk (bytes : List ℕ) (J t : ℕ) : Type 0 where
   pub rows-most : sum (suc (t / J)) (heights bytes J) ≤ 4096
   pub cols-most : sum (suc (t % J)) (widths bytes) ≤ 4096
 
-module _ (bytes : List ℕ) (o rows cols : ℕ) where
-  abbrev B : ℕ
-  B = borderCells rows cols
-
+module _ (bytes : List ℕ) (o rows cols B : ℕ) where
   -- field 2: no count above rows × columns
   pub record CountsOk : Type 0 where
     pub inside : waysStart o B ≤ length bytes
@@ -158,12 +155,12 @@ module _ (bytes : List ℕ) (o rows cols : ℕ) where
 abbrev pub PartOk : (bytes : List ℕ) (J t part : ℕ) → Type 0
 PartOk bytes J t zero = SidesOk bytes (startOf bytes t)
 PartOk bytes J t (suc zero) = PlacedOk bytes J t
-PartOk bytes J t (suc (suc zero)) = CountsOk bytes (startOf bytes t) (rowsOf bytes t) (colsOf bytes t)
-PartOk bytes J t (suc (suc (suc more))) = WaysOk bytes (startOf bytes t) (rowsOf bytes t) (colsOf bytes t)
+PartOk bytes J t (suc (suc zero)) = CountsOk bytes (startOf bytes t) (rowsOf bytes t) (colsOf bytes t) (bordersOf bytes t)
+PartOk bytes J t (suc (suc (suc more))) = WaysOk bytes (startOf bytes t) (rowsOf bytes t) (colsOf bytes t) (bordersOf bytes t)
 
 -- record t is well formed in a mosaic of J tile columns
 pub record RecordOk (bytes : List ℕ) (J t : ℕ) : Type 0 where
   pub sides : SidesOk bytes (startOf bytes t)
   pub placed : PlacedOk bytes J t
-  pub counts : CountsOk bytes (startOf bytes t) (rowsOf bytes t) (colsOf bytes t)
-  pub ways : WaysOk bytes (startOf bytes t) (rowsOf bytes t) (colsOf bytes t)
+  pub counts : CountsOk bytes (startOf bytes t) (rowsOf bytes t) (colsOf bytes t) (bordersOf bytes t)
+  pub ways : WaysOk bytes (startOf bytes t) (rowsOf bytes t) (colsOf bytes t) (bordersOf bytes t)

@@ -1,0 +1,47 @@
+-- `mosaic_read::bytes::four_at` meets its contract: two numbers of two bytes.
+-- Assumes nothing.
+use Rattle.mosaic_read.specs.Records.{fourAt}
+use borrow.Author.Needs.{needs}
+use Rattle.mosaic_read.proofs.bytes.four_at.Statement.{statement}
+use Rattle.mosaic_read.proofs.bytes.four_at.Tie as tie
+use Rattle.mosaic_read.proofs.bytes.four_at.Reads as reads
+use Rattle.mosaic_read.proofs.bytes.four_at.Lts as lts
+use Rattle.mosaic_read.proofs.bytes.two_at.Reads as two-at-reads
+
+two-at-requires : tie.Need-two-at-requires
+two-at-requires c κs = search needs
+
+cast-result : tie.Need-cast-result
+cast-result c = search needs
+
+mul-result : tie.Need-mul-result
+mul-result c = search needs
+
+add-two-at : tie.Need-add-two-at
+add-two-at c = search needs
+
+two-at-requires-2 : tie.Need-two-at-requires-2
+two-at-requires-2 c κs = search needs
+
+cast-result-2 : tie.Need-cast-result-2
+cast-result-2 c = search needs
+
+add-result : tie.Need-add-result
+add-result c = search needs
+
+returns : tie.Need-returns
+unfolding fourAt
+returns c = search needs
+
+pub four-at-spec : {M : Type 1} → statement M
+four-at-spec =
+    tie.close
+    (tie.spec
+    two-at-requires
+    cast-result
+    mul-result
+    add-two-at
+    two-at-requires-2
+    cast-result-2
+    add-result
+    returns)
