@@ -1,3 +1,5 @@
 pub mod Tests
 pub mod Starts
+pub mod Placed
 pub mod Ways
+pub mod OneRecord
