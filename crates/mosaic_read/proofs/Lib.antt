@@ -3,3 +3,5 @@ pub mod Starts
 pub mod Placed
 pub mod Ways
 pub mod OneRecord
+pub mod Turns
+pub mod AllRecords

@@ -68,10 +68,10 @@ pub fn read_records(tile_rows: usize, tile_cols: usize, records: &[u8]) -> ReadR
             ReadReply::Good { borders } => {
                 let rows = two_at(records, o + 3);
                 let cols = two_at(records, o + 5);
-                let last = t % tile_cols + 1 == tile_cols;
+                let next_col = t % tile_cols + 1;
                 o = o + 17 + 7 * borders;
                 t += 1;
-                if last {
+                if next_col == tile_cols {
                     above += rows;
                     left = 0;
                 } else {
