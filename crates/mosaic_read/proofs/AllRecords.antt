@@ -58,7 +58,7 @@ module _ (bytes : List ℕ) (J : ℕ) where
     before = λ m lm. before-part t p ok (f .before) m lm (f .inside);
   }
 
-  fault-number : (t p : ℕ) → numberOf (faultAt bytes t p) ≡ 0 → ⊥
+  pub fault-number : (t p : ℕ) → numberOf (faultAt bytes t p) ≡ 0 → ⊥
   fault-number t zero e = omega arith
   fault-number t (suc zero) e = omega arith
   fault-number t (suc (suc zero)) e = omega arith

@@ -5,3 +5,8 @@ pub mod Ways
 pub mod OneRecord
 pub mod Turns
 pub mod AllRecords
+pub mod One
+pub mod Shapes
+pub mod Answers
+pub mod Said
+pub mod Exits

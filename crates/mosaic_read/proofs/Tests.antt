@@ -1,8 +1,13 @@
 -- What a test that was made says of what it tests.
 -- Assumes nothing.
-use mathlib.Core.Bool.{Bool, true, false, not, true≢false}
+use mathlib.Core.Bool.{Bool, true, false, not, _&&_, true≢false}
 use mathlib.Core.Path.{_≡_, refl, sym}
 use Rattle.mosaic_read.specs.Method.{Says}
+
+-- two tests
+pub both : (a b : Bool) → a && b ≡ true → (a ≡ true) × (b ≡ true)
+both true b e = (refl, e)
+both false b e = absurd (true≢false (sym e))
 
 module _ {P : Type 0} where
   pub says-so : (b : Bool) → Says P b → not b ≡ false → P
