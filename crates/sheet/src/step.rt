@@ -27,7 +27,7 @@ fn moved(x: usize, d: i32) -> usize
 }
 
 // One more than the row that is one step of an arrow from row x.
-fn row_after(x: usize, code: u8) -> usize
+pub fn row_after(x: usize, code: u8) -> usize
     requires { ⌜ (x < 4096) × (isArrow code ≡ true) ⌝ }
     ensures { λ r. ⌜ r ≡ x + lift (stepOf code .1) ⌝ }
 {
@@ -39,7 +39,7 @@ fn row_after(x: usize, code: u8) -> usize
 }
 
 // One more than the column that is one step of an arrow from column x.
-fn col_after(x: usize, code: u8) -> usize
+pub fn col_after(x: usize, code: u8) -> usize
     requires { ⌜ (x < 4096) × (isArrow code ≡ true) ⌝ }
     ensures { λ r. ⌜ r ≡ x + lift (stepOf code .2) ⌝ }
 {
