@@ -2,8 +2,8 @@
 -- Assumes nothing.
 use mathlib.Core.Bool.{true}
 use mathlib.Core.Logic.{inl, inr}
-use mathlib.Core.Path.{_≡_, sym, ap, ap₂, _∙_}
-use Prim.Native.Nat.{ℕ, suc, _+_, _-_, _*_, _/_, _%_, _≤_, _<_}
+use mathlib.Core.Path.{_≡_, sym, ap, _∙_}
+use Prim.Native.Nat.{ℕ, _+_, _-_, _*_, _/_, _%_, _≤_, _<_}
 use native.Mathlib.Omega.{arith}
 use Rattle.flow.specs.Net.{sum}
 use Rattle.sheet.specs.Compass.{isArrow, stepOf}
@@ -16,7 +16,7 @@ use Rattle.mosaic.proofs.Across.{onto-neighbour, onto-north, onto-south, onto-w
 use Rattle.mosaic.proofs.Grid.{spot-place}
 use Rattle.mosaic.proofs.Neighbours.{Moved, beside}
 use Rattle.mosaic.proofs.Pieces.{row-in, col-in}
-use Rattle.mosaic.proofs.Steps.{down, right, down-most, right-most, Inside, step-inside}
+use Rattle.mosaic.proofs.Steps.{down, right, down-most, right-most, step-inside}
 use Rattle.mosaic_step.specs.Line.{pieceAfter, numberAfter}
 use Rattle.mosaic_step.proofs.Moves.{line-moved, line-off}
 
@@ -80,9 +80,9 @@ module _ (I J : ℕ) (hs ws code : ℕ → ℕ) (t b r c a : ℕ) (lt : t < I * 
       let sj : s % J ≡ j = ap (λ (x : ℕ). x % J) e ∙ col-of J i j lj in
       let ls : s < I * J = omega (arith, place-lt I J i j li lj) in
       let m : Moved hs I (t / J) r (down a) (s / J) r' = line-moved hs I (t / J) r (down a) (row-in I J t lt) lr (down-most a arrow) some-height (si ∙ p) (row-in I J s ls)
-          (n ∙ ap (λ (x : ℕ). numberAfter (t / J) (r + down a) x (heightOf J hs s)) (sym si)) in
+      (n ∙ ap (λ (x : ℕ). numberAfter (t / J) (r + down a) x (heightOf J hs s)) (sym si)) in
       let k : Moved ws J (t % J) c (right a) (s % J) c' = line-moved ws J (t % J) c (right a) (col-in I J t lt) lc (right-most a arrow) some-width (sj ∙ q) (col-in I J s ls)
-          (o ∙ ap (λ (x : ℕ). numberAfter (t % J) (c + right a) x (widthOf J ws s)) (sym sj)) in
+      (o ∙ ap (λ (x : ℕ). numberAfter (t % J) (c + right a) x (widthOf J ws s)) (sym sj)) in
       let d = apart s r' c' m k in
       let ly = spot-place I J hs ws s r' c' ls (m .number-in) (k .number-in) in
       let ry : (r' * widthOf J ws s + c') / widthOf J ws s ≡ r' = row-of (widthOf J ws s) r' c' (k .number-in) in

@@ -2,8 +2,8 @@
 -- Assumes nothing.
 use mathlib.Core.Bool.{true}
 use mathlib.Core.List.{List}
-use mathlib.Core.Path.{_≡_, refl, sym, ap, ap₂, _∙_}
-use Prim.Native.Nat.{ℕ, zero, suc, _+_, _*_, _/_, _%_, _≤_, _<_}
+use mathlib.Core.Path.{_≡_, refl, ap₂}
+use Prim.Native.Nat.{ℕ, zero, suc, _+_, _*_, _≤_, _<_}
 use native.Mathlib.Nat.{mul-le-mul-right}
 use native.Mathlib.Omega.{arith}
 use lib.ListN.{length}
@@ -15,7 +15,7 @@ use Rattle.sheet.specs.Sheet.{stepFrom}
 use Rattle.sheet.proofs.Places.{place-lt}
 use Rattle.tile.specs.Border.{borderCells, borderPlace}
 use Rattle.tile.proofs.Cells.{cells-most}
-use Rattle.mosaic.specs.Layout.{heightOf, widthOf, cellsIn, bordersIn, bordersBefore, allBorders, placeIn}
+use Rattle.mosaic.specs.Layout.{heightOf, widthOf, bordersIn, bordersBefore}
 use Rattle.mosaic.proofs.Borders.{border-tile, border-in}
 use Rattle.mosaic_read.specs.Records.{startOf, rowsOf, colsOf, bordersOf, heights, widths, countIn, wayIn, codeIn, Leads}
 use Rattle.mosaic_read.specs.Said.{saidCount, saidWay, saidCode}

@@ -11,7 +11,7 @@ use Rattle.sheet.specs.Leaves.{Cell, SpotOf}
 use Rattle.sheet.specs.Sheet.{stepFrom}
 use Rattle.sheet.specs.declared.step.Spot.{Spot}
 use Rattle.tile.specs.Border.{edgeAt, borderCells, borderNumber, borderPlace}
-use Rattle.mosaic.specs.Layout.{heightOf, widthOf, cellsIn, bordersIn, bordersBefore, allBorders, placeIn, borderOf}
+use Rattle.mosaic.specs.Layout.{heightOf, widthOf, cellsIn, bordersIn, bordersBefore, allBorders, placeIn}
 use Rattle.mosaic.specs.Join.{onto}
 use Rattle.mosaic.proofs.Pieces.{row-in, col-in}
 use Rattle.mosaic.proofs.Steps.{down, right}

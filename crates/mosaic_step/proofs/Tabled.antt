@@ -7,13 +7,11 @@ use native.Mathlib.Omega.{arith}
 use lib.ListN.{length}
 use Rattle.sheet.specs.Leaves.{Cell}
 use Rattle.sheet.specs.Shape.{TileShape}
-use Rattle.sheet.proofs.Places.{place-lt}
 use Rattle.sheet.proofs.Spots.{cell-fits}
 use Rattle.tile.specs.Border.{onBorder, borderNumber}
 use Rattle.tile.proofs.Rank.{number-le}
 use Rattle.mosaic.specs.Layout.{heightOf, widthOf}
-use Rattle.mosaic_read.specs.Read.{MosaicShape}
-use Rattle.mosaic_read.specs.Records.{rowsAt, colsAt, startOf, heights, widths}
+use Rattle.mosaic_read.specs.Records.{rowsAt, colsAt, heights, widths}
 use Rattle.mosaic_step.specs.Table.{WellFormed, Table, startIn}
 use Rattle.mosaic_step.proofs.Known.{tile-shape, height-is, width-is, record-inside}
 
@@ -25,10 +23,6 @@ number-small {rows} {cols} {r} {c} s = omega (arith, number-le (onBorder rows co
 -- the number by other names of the tile's sides
 pub number-by : (r c : ℕ) {rows cols rows' cols' n : ℕ} → rows ≡ rows' → cols ≡ cols' → n ≡ borderNumber rows cols (r * cols + c) → n ≡ borderNumber rows' cols' (r * cols' + c)
 number-by r c h v e = e ∙ ap₂ (λ (x y : ℕ). borderNumber x y (r * y + c)) h v
-
--- the number of a tile fits: it stands in tile row k and tile column m
-pub tile-small : {I J k m : ℕ} → MosaicShape I J → k < I → m < J → k * J + m < 64
-tile-small {I} {J} {k} {m} s l n = omega (arith, place-lt I J k m l n, s .tiles-most)
 
 module _ {I J : ℕ} {bytes table : List ℕ} (w : WellFormed I J bytes) (tab : Table I J bytes table) (t : ℕ) (l : t < I * J) where
   -- its numbers stand in the table

@@ -20,7 +20,8 @@ border-number-requires : tie.Need-border-number-requires
 border-number-requires c κs = rw (c .before .before .tile-height .ensures .0, c .before .tile-width .ensures .0) (c .before .before .before .before .before .pre .1 .1)
 
 add-result : tie.Need-add-result
-add-result c = let s = c .before .before .before .before .before .before in
+add-result c =
+    let s = c .before .before .before .before .before .before in
     record { fits = omega (arith, c .before .first-border .ensures, c .before .before .before .before .shared-slice-known2 .given (2 * s .args .t + 1), number-small (s .pre .1 .1 .0), number-by (s .args .r) (s .args .c) (c .before .before .before .tile-height .ensures .0) (c .before .before .tile-width .ensures .0) (c .border-number .ensures)) }
 
 returns : tie.Need-returns

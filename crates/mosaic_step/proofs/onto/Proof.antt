@@ -1,7 +1,7 @@
 -- `mosaic_step::onto` meets its contract: a law of the border cell sought for each way through it.
 -- Assumes nothing.
 use denote.Ref.{now}
-use mathlib.Core.Path.{_≡_, refl, sym, _∙_}
+use mathlib.Core.Path.{refl, sym, _∙_}
 use native.Mathlib.Omega.{arith}
 use Prim.Native.Nat.{ℕ, _+_, _*_, _<_}
 use Rattle.sheet.proofs.Places.{place-lt}
@@ -9,8 +9,7 @@ use Rattle.mosaic_read.specs.Records.{heights, widths}
 use Rattle.mosaic_step.proofs.Crossing.{Found}
 use Rattle.mosaic_step.proofs.Moves.{stays-some}
 use Rattle.mosaic_step.proofs.Sought.{Standing, soughtIn, border-read, way-inside, standing, tile-row-in, tile-col-in, exit-code, row-small, col-small, off-rows, off-cols, onto-tile, found-cell, found-edge, found-number}
-use Rattle.mosaic_step.proofs.Tabled.{slot-in, sides-in, tabled-height, tabled-width, tabled-shape, tile-small, height-there, width-there}
-use borrow.Author.Needs.{needs}
+use Rattle.mosaic_step.proofs.Tabled.{slot-in, sides-in, tabled-height, tabled-width, tabled-shape, height-there, width-there}
 use Rattle.mosaic_step.proofs.onto.Statement.{statement}
 use Rattle.mosaic_step.proofs.onto.Tie as tie
 
@@ -34,9 +33,101 @@ abbrev next : tie.Else2 → ℕ
 next c = c .before .before .before .before .piece-after .result * start (cell c) .args .tile-cols + c .before .piece-after2 .result
 
 next-in : (c : tie.Else2) → next c < start (cell c) .args .tile-rows * start (cell c) .args .tile-cols
-next-in c = place-lt _ _ _ _ (c .before .before .before .if1 .left) (c .if2 .left)
+next-in c = place-lt _ _ _ _ (omega (arith, c .before .before .before .if1 .left)) (omega (arith, c .if2 .left))
 
--- the border cell of it
+tile-height-requires : tie.Need-tile-height-requires
+tile-height-requires c κs =
+    let s = c .before .before .pre in
+    (omega (arith, slot-in (s .0) (s .1 .0) _ (s .1 .1 .1 .0 .tile)), sides-in (s .0) (s .1 .0) _ (s .1 .1 .1 .0 .tile))
+
+tile-width-requires : tie.Need-tile-width-requires
+tile-width-requires c κs =
+    let s = c .before .before .before .pre in
+    (omega (arith, slot-in (s .0) (s .1 .0) _ (s .1 .1 .1 .0 .tile)), sides-in (s .0) (s .1 .0) _ (s .1 .1 .1 .0 .tile))
+
+border-spot-requires : tie.Need-border-spot-requires
+border-spot-requires c κs =
+    let s = c .before .before .before .before .pre in
+    let h = c .before .tile-height .ensures .0 in
+    let v = c .tile-width .ensures .0 in
+    (tabled-shape (s .0) (s .1 .0) _ (s .1 .1 .1 .0 .tile) h v, border-read (s .0) (s .1 .0) (s .1 .1 .1 .0) (s .1 .1 .1 .1) h v)
+
+tile-start-requires : tie.Need-tile-start-requires
+tile-start-requires c κs =
+    let s = c .before .before .before .before .before .pre in omega (arith, slot-in (s .0) (s .1 .0) _ (s .1 .1 .1 .0 .tile))
+
+border-cells-requires : tie.Need-border-cells-requires
+border-cells-requires c κs =
+    let s = c .before .before .before .before .before .before .pre in
+    tabled-shape (s .0) (s .1 .0) _ (s .1 .1 .1 .0 .tile) (c .before .before .before .tile-height .ensures .0) (c .before .before .tile-width .ensures .0)
+
+cell-code-requires : tie.Need-cell-code-requires
+cell-code-requires c κs =
+    let s = c .before .before .before .before .before .before .before .pre in
+    way-inside (s .0) (s .1 .0) (s .1 .1 .1 .0) (s .1 .1 .1 .1) (c .before .before .before .before .tile-height .ensures .0) (c .before .before .before .tile-width .ensures .0)
+    (c .before .tile-start .ensures) (c .border-cells .ensures)
+
+row-after-requires : tie.Need-row-after-requires
+row-after-requires c κs =
+    let s = start c .pre in (row-small (s .0) (s .1 .1 .1 .0) (s .1 .1 .1 .1) (read c), exit-code (s .0) (s .1 .1 .1 .0) (s .1 .1 .1 .1) (read c))
+
+piece-after-requires : tie.Need-piece-after-requires
+piece-after-requires c κs = tile-row-in (start (c .before) .pre .1 .1 .1 .0)
+
+returns : tie.Need-returns
+returns c =
+    let at = c .before .before .before in
+    let s = start at .pre in
+    s .1 .1 .0 ∙ sym (off-rows (s .0) (s .1 .1 .1 .0) (s .1 .1 .1 .1) (read at) (c .before .before .row-after .ensures) (c .before .piece-after .ensures) (omega (arith, c .if1 .taken)))
+
+col-after-requires : tie.Need-col-after-requires
+col-after-requires c κs =
+    let at = c .before .before .before in
+    let s = start at .pre in
+    (col-small (s .0) (s .1 .1 .1 .0) (s .1 .1 .1 .1) (read at), exit-code (s .0) (s .1 .1 .1 .0) (s .1 .1 .1 .1) (read at))
+
+piece-after-requires-2 : tie.Need-piece-after-requires-2
+piece-after-requires-2 c κs = tile-col-in (start (c .before .before .before .before) .pre .1 .1 .1 .0)
+
+returns-2 : tie.Need-returns-2
+returns-2 c =
+    let at = c .before .before .before .before .before .before in
+    let s = start at .pre in
+    s .1 .1 .0
+    ∙ sym (off-cols (s .0) (s .1 .1 .1 .0) (s .1 .1 .1 .1) (read at) (c .before .before .before .before .before .row-after .ensures) (c .before .before .before .before .piece-after .ensures) (c .before .before .col-after .ensures) (c .before .piece-after2 .ensures) (omega (arith, c .if2 .taken)))
+
+mul-s : tie.Need-mul-s
+mul-s c = record { fits = omega (arith, next-in c, start (cell c) .pre .0 .shape .tiles-most) }
+
+add-s : tie.Need-add-s
+add-s c = record { fits = omega (arith, next-in c, start (cell c) .pre .0 .shape .tiles-most) }
+
+tile-height-requires-2 : tie.Need-tile-height-requires-2
+tile-height-requires-2 c κs =
+    let s = start (cell c) .pre in
+    (omega (arith, slot-in (s .0) (s .1 .0) (next c) (next-in c)), sides-in (s .0) (s .1 .0) (next c) (next-in c))
+
+number-after-requires : tie.Need-number-after-requires
+number-after-requires c κs =
+    let e = c .before in
+    let s = start (cell e) .pre in (
+      height-there (s .0) (s .1 .0) (next e) (next-in e) (c .tile-height2 .ensures .0),
+      stays-some _ _ _ _ (tile-row-in (s .1 .1 .1 .0)) (e .before .before .before .before .piece-after .ensures),
+    )
+
+tile-width-requires-2 : tie.Need-tile-width-requires-2
+tile-width-requires-2 c κs =
+    let e = c .before .before in
+    let s = start (cell e) .pre in
+    (omega (arith, slot-in (s .0) (s .1 .0) (next e) (next-in e)), sides-in (s .0) (s .1 .0) (next e) (next-in e))
+
+number-after-requires-2 : tie.Need-number-after-requires-2
+number-after-requires-2 c κs =
+    let e = c .before .before .before in
+    let s = start (cell e) .pre in
+    (width-there (s .0) (s .1 .0) (next e) (next-in e) (c .tile-width2 .ensures .0), stays-some _ _ _ _ (tile-col-in (s .1 .1 .1 .0)) (e .before .piece-after2 .ensures))
+
+-- the border cell that is stepped onto
 found : (c : tie.After-number-after2)
     → let e = c .before .before .before .before in
     let a = start (cell e) .args in
@@ -46,96 +137,20 @@ found c =
     let e = c .before .before .before .before in
     let s = start (cell e) .pre in
     onto-tile (s .0) (s .1 .1 .1 .0) (s .1 .1 .1 .1) (read (cell e)) (e .before .before .before .before .before .row-after .ensures) (e .before .before .before .before .piece-after .ensures)
-    (e .before .before .col-after .ensures) (e .before .piece-after2 .ensures) (e .before .before .before .if1 .left) (e .if2 .left) (next e) refl
+    (e .before .before .col-after .ensures) (e .before .piece-after2 .ensures) (omega (arith, e .before .before .before .if1 .left)) (omega (arith, e .if2 .left)) (next e) refl
     (c .before .before .before .tile-height2 .ensures .0 ∙ tabled-height (s .0) (s .1 .0) (next e) (next-in e))
     (c .before .tile-width2 .ensures .0 ∙ tabled-width (s .0) (s .1 .0) (next e) (next-in e))
     (c .before .before .number-after .ensures) (c .number-after2 .ensures)
 
-
-tile-height-requires : tie.Need-tile-height-requires
-tile-height-requires c κs = let s = c .before .before .pre in
-    (omega (arith, slot-in (s .0) (s .1 .0) _ (s .1 .1 .1 .0 .tile)), sides-in (s .0) (s .1 .0) _ (s .1 .1 .1 .0 .tile))
-
-tile-width-requires : tie.Need-tile-width-requires
-tile-width-requires c κs = let s = c .before .before .before .pre in
-    (omega (arith, slot-in (s .0) (s .1 .0) _ (s .1 .1 .1 .0 .tile)), sides-in (s .0) (s .1 .0) _ (s .1 .1 .1 .0 .tile))
-
-border-spot-requires : tie.Need-border-spot-requires
-border-spot-requires c κs = let s = c .before .before .before .before .pre in
-    let h = c .before .tile-height .ensures .0 in
-    let v = c .tile-width .ensures .0 in
-    (tabled-shape (s .0) (s .1 .0) _ (s .1 .1 .1 .0 .tile) h v, border-read (s .0) (s .1 .0) (s .1 .1 .1 .0) (s .1 .1 .1 .1) h v)
-
-tile-start-requires : tie.Need-tile-start-requires
-tile-start-requires c κs = let s = c .before .before .before .before .before .pre in omega (arith, slot-in (s .0) (s .1 .0) _ (s .1 .1 .1 .0 .tile))
-
-border-cells-requires : tie.Need-border-cells-requires
-border-cells-requires c κs = let s = c .before .before .before .before .before .before .pre in
-    tabled-shape (s .0) (s .1 .0) _ (s .1 .1 .1 .0 .tile) (c .before .before .before .tile-height .ensures .0) (c .before .before .tile-width .ensures .0)
-
-cell-code-requires : tie.Need-cell-code-requires
-cell-code-requires c κs = let s = c .before .before .before .before .before .before .before .pre in
-    way-inside (s .0) (s .1 .0) (s .1 .1 .1 .0) (s .1 .1 .1 .1) (c .before .before .before .before .tile-height .ensures .0) (c .before .before .before .tile-width .ensures .0)
-    (c .before .tile-start .ensures) (c .border-cells .ensures)
-
-row-after-requires : tie.Need-row-after-requires
-row-after-requires c κs = let s = start c .pre in (row-small (s .0) (s .1 .1 .1 .0) (s .1 .1 .1 .1) (read c), exit-code (s .0) (s .1 .1 .1 .0) (s .1 .1 .1 .1) (read c))
-
-piece-after-requires : tie.Need-piece-after-requires
-piece-after-requires c κs = tile-row-in (start (c .before) .pre .1 .1 .1 .0)
-
-returns : tie.Need-returns
-returns c = let at = c .before .before .before in
-    let s = start at .pre in
-    s .1 .1 .0 ∙ sym (off-rows (s .0) (s .1 .1 .1 .0) (s .1 .1 .1 .1) (read at) (c .before .before .row-after .ensures) (c .before .piece-after .ensures) (c .if1 .taken))
-
-col-after-requires : tie.Need-col-after-requires
-col-after-requires c κs = let at = c .before .before .before in
-    let s = start at .pre in
-    (col-small (s .0) (s .1 .1 .1 .0) (s .1 .1 .1 .1) (read at), exit-code (s .0) (s .1 .1 .1 .0) (s .1 .1 .1 .1) (read at))
-
-piece-after-requires-2 : tie.Need-piece-after-requires-2
-piece-after-requires-2 c κs = tile-col-in (start (c .before .before .before .before) .pre .1 .1 .1 .0)
-
-returns-2 : tie.Need-returns-2
-returns-2 c = let at = c .before .before .before .before .before .before in
-    let s = start at .pre in
-    s .1 .1 .0
-    ∙ sym (off-cols (s .0) (s .1 .1 .1 .0) (s .1 .1 .1 .1) (read at) (c .before .before .before .before .before .row-after .ensures) (c .before .before .before .before .piece-after .ensures) (c .before .before .col-after .ensures) (c .before .piece-after2 .ensures) (c .if2 .taken))
-
-mul-s : tie.Need-mul-s
-mul-s c = record { fits = omega (arith, tile-small (start (cell c) .pre .0 .shape) (c .before .before .before .if1 .left) (c .if2 .left)) }
-
-add-s : tie.Need-add-s
-add-s c = record { fits = omega (arith, tile-small (start (cell c) .pre .0 .shape) (c .before .before .before .if1 .left) (c .if2 .left)) }
-
-tile-height-requires-2 : tie.Need-tile-height-requires-2
-tile-height-requires-2 c κs = let s = start (cell c) .pre in
-    (omega (arith, slot-in (s .0) (s .1 .0) (next c) (next-in c)), sides-in (s .0) (s .1 .0) (next c) (next-in c))
-
-number-after-requires : tie.Need-number-after-requires
-number-after-requires c κs = let e = c .before in
-    let s = start (cell e) .pre in
-    (height-there (s .0) (s .1 .0) (next e) (next-in e) (c .tile-height2 .ensures .0),
-      stays-some _ _ _ _ (tile-row-in (s .1 .1 .1 .0)) (e .before .before .before .before .piece-after .ensures))
-
-tile-width-requires-2 : tie.Need-tile-width-requires-2
-tile-width-requires-2 c κs = let e = c .before .before in
-    let s = start (cell e) .pre in
-    (omega (arith, slot-in (s .0) (s .1 .0) (next e) (next-in e)), sides-in (s .0) (s .1 .0) (next e) (next-in e))
-
-number-after-requires-2 : tie.Need-number-after-requires-2
-number-after-requires-2 c κs = let e = c .before .before .before in
-    let s = start (cell e) .pre in
-    (width-there (s .0) (s .1 .0) (next e) (next-in e) (c .tile-width2 .ensures .0), stays-some _ _ _ _ (tile-col-in (s .1 .1 .1 .0)) (e .before .piece-after2 .ensures))
-
 number-in-mosaic-requires : tie.Need-number-in-mosaic-requires
-number-in-mosaic-requires c κs = let e = c .before .before .before .before in
+number-in-mosaic-requires c κs =
+    let e = c .before .before .before .before in
     let s = start (cell e) .pre in
     (slot-in (s .0) (s .1 .0) (next e) (next-in e), (sides-in (s .0) (s .1 .0) (next e) (next-in e), (found-cell (s .0) (s .1 .0) (found c), found-edge (s .0) (s .1 .0) (found c))))
 
 returns-3 : tie.Need-returns-3
-returns-3 c = let s = start (cell (c .before .before .before .before .before)) .pre in found-number (s .0) (s .1 .0) (found (c .before)) (c .number-in-mosaic .ensures)
+returns-3 c =
+    let s = start (cell (c .before .before .before .before .before)) .pre in found-number (s .0) (s .1 .0) (found (c .before)) (c .number-in-mosaic .ensures)
 
 pub onto-spec : {M : Type 1} → statement M
 onto-spec =

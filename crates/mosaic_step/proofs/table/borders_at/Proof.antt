@@ -1,6 +1,5 @@
 -- `mosaic_step::table::borders_at` meets its contract: it reads the sides.
 -- Assumes nothing.
-use native.Mathlib.Omega.{arith}
 use mathlib.Core.Path.{ap₂, _∙_}
 use Rattle.tile.specs.Border.{borderCells}
 use borrow.Author.Needs.{needs}

@@ -1,11 +1,11 @@
 -- `mosaic_step::table::fill_table` meets its contract: each turn writes one tile's numbers.
 -- Assumes nothing.
 use denote.Ref.{now}
-use mathlib.Core.Path.{_≡_, refl, sym, ap, _∙_}
+use mathlib.Core.Path.{_≡_, refl, sym, ap}
 use native.Mathlib.Numerals.{add-one}
 use native.Mathlib.Omega.{arith}
-use Prim.Native.Nat.{suc, _+_, _*_, _-_, _≤_}
-use lib.ListN.{length, length-set}
+use Prim.Native.Nat.{_*_, _-_}
+use lib.ListN.{length-set}
 use Rattle.mosaic.specs.Layout.{bordersBefore}
 use Rattle.mosaic_read.specs.Records.{startOf, heights, widths}
 use Rattle.mosaic_read.proofs.Starts.{start-none, start-next, borders-read}
@@ -25,7 +25,8 @@ mul-tiles : tie.Need-mul-tiles Inv-loop μ-loop
 mul-tiles c = record { fits = omega (arith, c .before .before .pre .0 .shape .tiles-most) }
 
 loop-holds : tie.Need-loop-holds Inv-loop μ-loop
-loop-holds c = let s = c .before .before in
+loop-holds c =
+    let s = c .before .before in
     record { among = omega arith; start = sym (start-none _); number = sym (before-none (s .pre .0)); filled = filled-none _ _ (s .pre .1) }
 
 cast-table : tie.Need-cast-table Inv-loop μ-loop
@@ -56,7 +57,8 @@ slice-write-table-2 : tie.Need-slice-write-table-2 Inv-loop μ-loop
 slice-write-table-2 c = let w = c .before .before .before .before .pre .0 in omega (arith, c .loop-test .taken, w .shape .tiles-most, c .before .loop .inv .filled .long, length-set (c .before .loop .table) (2 * c .before .loop .t) (c .before .loop .o))
 
 borders-at-requires : tie.Need-borders-at-requires Inv-loop μ-loop
-borders-at-requires c κs = let w = c .before .before .before .before .pre .0 in
+borders-at-requires c κs =
+    let w = c .before .before .before .before .pre .0 in
     let t = c .before .loop .t in
     let o = c .before .loop .inv .start in
     (omega (arith, o, record-inside w t (c .loop-test .taken)), rw o (tile-shape w t (c .loop-test .taken)))
@@ -118,7 +120,8 @@ same-length : tie.Need-same-length Inv-loop μ-loop
 same-length c = let s = c .before .before .before .before in omega (arith, c .before .loop .inv .filled .long, s .pre .1)
 
 returns : tie.Need-returns Inv-loop μ-loop
-returns c = let s = c .before .before .before .before in
+returns c =
+    let s = c .before .before .before .before in
     let all : c .before .loop .t ≡ s .args .tile-rows * s .args .tile-cols = omega (arith, c .before .loop .inv .among, c .loop-test .left) in
     rw all at (c .before .loop .inv .filled)
 

@@ -1,6 +1,5 @@
 -- `mosaic_step::table::tile_height` meets its contract: it reads two bytes of the record.
 -- Assumes nothing.
-use native.Mathlib.Omega.{arith}
 use mathlib.Core.Path.{ap, _∙_}
 use Rattle.mosaic_read.specs.Records.{rowsAt}
 use borrow.Author.Needs.{needs}

@@ -1,7 +1,7 @@
 -- `mosaic_step::table::tile_start` meets its contract: it reads one number.
 -- Assumes nothing.
 use native.Mathlib.Omega.{arith}
-use Prim.Native.Nat.{_+_, _*_}
+use Prim.Native.Nat.{_*_}
 use borrow.Author.Needs.{needs}
 use Rattle.mosaic_step.proofs.table.tile_start.Statement.{statement}
 use Rattle.mosaic_step.proofs.table.tile_start.Tie as tie
