@@ -1,11 +1,12 @@
 -- `mosaic_step::onto` meets its contract: a law of the border cell sought for each way through it.
 -- Assumes nothing.
 use denote.Ref.{now}
-use mathlib.Core.Path.{refl, sym, _∙_}
+use mathlib.Core.Path.{_≡_, refl, sym, _∙_}
 use native.Mathlib.Omega.{arith}
 use Prim.Native.Nat.{ℕ, _+_, _*_, _<_}
 use Rattle.sheet.proofs.Places.{place-lt}
 use Rattle.mosaic_read.specs.Records.{heights, widths}
+use Rattle.mosaic_step.specs.Line.{pieceAfter}
 use Rattle.mosaic_step.proofs.Crossing.{Found}
 use Rattle.mosaic_step.proofs.Moves.{stays-some}
 use Rattle.mosaic_step.proofs.Sought.{Standing, soughtIn, border-read, way-inside, standing, tile-row-in, tile-col-in, exit-code, row-small, col-small, off-rows, off-cols, onto-tile, found-cell, found-edge, found-number}
@@ -74,11 +75,17 @@ row-after-requires c κs =
 piece-after-requires : tie.Need-piece-after-requires
 piece-after-requires c κs = tile-row-in (start (c .before) .pre .1 .1 .1 .0)
 
+-- the tile row that the step leads to
+row-piece : (c : tie.After-piece-after)
+    → let at = c .before .before in
+    c .piece-after .result ≡ pieceAfter (start at .args .tile-rows) (start at .args .tile-row) (at .before .before .before .before .before .tile-height .result) (c .before .row-after .result)
+row-piece c = omega (arith, c .piece-after .ensures)
+
 returns : tie.Need-returns
 returns c =
     let at = c .before .before .before in
     let s = start at .pre in
-    s .1 .1 .0 ∙ sym (off-rows (s .0) (s .1 .1 .1 .0) (s .1 .1 .1 .1) (read at) (c .before .before .row-after .ensures) (c .before .piece-after .ensures) (omega (arith, c .if1 .taken)))
+    s .1 .1 .0 ∙ sym (off-rows (s .0) (s .1 .1 .1 .0) (s .1 .1 .1 .1) (read at) (c .before .before .row-after .ensures) (row-piece (c .before)) (omega (arith, c .if1 .taken)))
 
 col-after-requires : tie.Need-col-after-requires
 col-after-requires c κs =
@@ -89,12 +96,18 @@ col-after-requires c κs =
 piece-after-requires-2 : tie.Need-piece-after-requires-2
 piece-after-requires-2 c κs = tile-col-in (start (c .before .before .before .before) .pre .1 .1 .1 .0)
 
+-- the tile column that it leads to
+col-piece : (c : tie.After-piece-after2)
+    → let at = c .before .before .before .before .before in
+    c .piece-after2 .result ≡ pieceAfter (start at .args .tile-cols) (start at .args .tile-col) (at .before .before .before .before .tile-width .result) (c .before .col-after .result)
+col-piece c = omega (arith, c .piece-after2 .ensures)
+
 returns-2 : tie.Need-returns-2
 returns-2 c =
     let at = c .before .before .before .before .before .before in
     let s = start at .pre in
     s .1 .1 .0
-    ∙ sym (off-cols (s .0) (s .1 .1 .1 .0) (s .1 .1 .1 .1) (read at) (c .before .before .before .before .before .row-after .ensures) (c .before .before .before .before .piece-after .ensures) (c .before .before .col-after .ensures) (c .before .piece-after2 .ensures) (omega (arith, c .if2 .taken)))
+    ∙ sym (off-cols (s .0) (s .1 .1 .1 .0) (s .1 .1 .1 .1) (read at) (c .before .before .before .before .before .row-after .ensures) (row-piece (c .before .before .before .before)) (c .before .before .col-after .ensures) (col-piece (c .before)) (omega (arith, c .if2 .taken)))
 
 mul-s : tie.Need-mul-s
 mul-s c = record { fits = omega (arith, next-in c, start (cell c) .pre .0 .shape .tiles-most) }
@@ -112,7 +125,7 @@ number-after-requires c κs =
     let e = c .before in
     let s = start (cell e) .pre in (
       height-there (s .0) (s .1 .0) (next e) (next-in e) (c .tile-height2 .ensures .0),
-      stays-some _ _ _ _ (tile-row-in (s .1 .1 .1 .0)) (e .before .before .before .before .piece-after .ensures),
+      stays-some _ _ _ _ (tile-row-in (s .1 .1 .1 .0)) (row-piece (e .before .before .before .before)),
     )
 
 tile-width-requires-2 : tie.Need-tile-width-requires-2
@@ -125,7 +138,7 @@ number-after-requires-2 : tie.Need-number-after-requires-2
 number-after-requires-2 c κs =
     let e = c .before .before .before in
     let s = start (cell e) .pre in
-    (width-there (s .0) (s .1 .0) (next e) (next-in e) (c .tile-width2 .ensures .0), stays-some _ _ _ _ (tile-col-in (s .1 .1 .1 .0)) (e .before .piece-after2 .ensures))
+    (width-there (s .0) (s .1 .0) (next e) (next-in e) (c .tile-width2 .ensures .0), stays-some _ _ _ _ (tile-col-in (s .1 .1 .1 .0)) (col-piece (e .before)))
 
 -- the border cell that is stepped onto
 found : (c : tie.After-number-after2)
@@ -136,8 +149,8 @@ found : (c : tie.After-number-after2)
 found c =
     let e = c .before .before .before .before in
     let s = start (cell e) .pre in
-    onto-tile (s .0) (s .1 .1 .1 .0) (s .1 .1 .1 .1) (read (cell e)) (e .before .before .before .before .before .row-after .ensures) (e .before .before .before .before .piece-after .ensures)
-    (e .before .before .col-after .ensures) (e .before .piece-after2 .ensures) (omega (arith, e .before .before .before .if1 .left)) (omega (arith, e .if2 .left)) (next e) refl
+    onto-tile (s .0) (s .1 .1 .1 .0) (s .1 .1 .1 .1) (read (cell e)) (e .before .before .before .before .before .row-after .ensures) (row-piece (e .before .before .before .before))
+    (e .before .before .col-after .ensures) (col-piece (e .before)) (omega (arith, e .before .before .before .if1 .left)) (omega (arith, e .if2 .left)) (next e) refl
     (c .before .before .before .tile-height2 .ensures .0 ∙ tabled-height (s .0) (s .1 .0) (next e) (next-in e))
     (c .before .tile-width2 .ensures .0 ∙ tabled-width (s .0) (s .1 .0) (next e) (next-in e))
     (c .before .before .number-after .ensures) (c .number-after2 .ensures)
