@@ -46,7 +46,6 @@ module _ {I J : ℕ} {bytes : List ℕ} (w : WellFormed I J bytes) where
 
     -- its record ends within the bytes
     pub record-inside : startOf bytes t + 17 + 7 * bordersOf bytes t ≤ length bytes
-    unfolding bordersOf
     record-inside = w .records t l .ways .inside
 
     -- the number of the next tile's first border cell
@@ -72,18 +71,15 @@ module _ {I J : ℕ} {bytes : List ℕ} (w : WellFormed I J bytes) where
       said-code = ap₂ (codeIn bytes) (border-tile I J (heights bytes J) (widths bytes) t b l lb-in) (border-in I J (heights bytes J) (widths bytes) t b l lb-in)
 
     -- the way of an exit leads out of its tile
-    exit-leads : (b : ℕ) → Exit bytes t b → Leads bytes (startOf bytes t) (rowsOf bytes t) (colsOf bytes t) b
-    unfolding bordersOf
+    exit-leads : (b : ℕ) → Exit bytes t b → Leads bytes (startOf bytes t) (rowsOf bytes t) (colsOf bytes t) (bordersOf bytes t) b
     exit-leads b e =
         w .records t l .ways .ways b (e .border) .leads (λ m. omega (arith, m .0, e .itself, e .border, borders-most)) (λ m. omega (arith, m .0, e .itself, e .border, borders-most))
 
     pub exit-arrow : (b : ℕ) → Exit bytes t b → isArrow (codeIn bytes t b) ≡ true
-    unfolding bordersOf
     exit-arrow b e = exit-leads b e .arrow
 
     pub exit-outside : (b : ℕ) → Exit bytes t b
         → rowsOf bytes t * colsOf bytes t ≤ stepFrom (rowsOf bytes t) (colsOf bytes t) (stepOf (codeIn bytes t b)) (borderPlace (rowsOf bytes t) (colsOf bytes t) b)
-    unfolding bordersOf
     exit-outside b e = rw (e .itself) at (exit-leads b e .outside)
 
   -- ---- the sides of tile rows and tile columns
