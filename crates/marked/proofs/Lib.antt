@@ -1,2 +1,4 @@
+pub mod NetTest
+pub mod CutTest
 pub mod Test
 pub mod Marked

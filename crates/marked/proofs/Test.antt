@@ -1,29 +1,25 @@
 -- A test of a row that the checker computes, and the law that turns it into what the row means.
 -- Assumes nothing.
-use mathlib.Core.Bool.{Bool, true, false, not, _&&_, true≢false}
+use mathlib.Core.Bool.{Bool, true, not, _&&_, true≢false}
 use mathlib.Core.List.{List, [], _∷_}
-use mathlib.Core.Path.{_≡_, refl, sym, _∙_}
-use Prim.Native.Nat.{ℕ, _*_, _<_, _≤_}
-use native.Mathlib.Omega.{arith}
+use mathlib.Core.Path.{_≡_, sym, ap₂, _∙_}
+use Prim.Native.Nat.{ℕ, _*_, _<_}
 use lib.Dec.{eqb, leb, ltb}
 use lib.ListN.{length}
 use borrow.Author.Tests.{eqb-true, leb-true, ltb-true, not-true}
 use Rattle.promise.specs.Links.{FirstNot}
-use Rattle.flow.specs.Net.{loopLength}
-use Rattle.flow.proofs.Test.{allb, allb-says, countsb, countsb-iff, noLoopb, noLoopb-iff, onLoopb, onLoopb-iff}
+use Rattle.flow.proofs.Test.{allb, allb-says, countsb, countsb-iff, noLoopb, noLoopb-iff}
 use Rattle.sheet.specs.Compass.{isCode}
 use Rattle.sheet.specs.Shape.{SheetShape}
 use Rattle.sheet.specs.Sheet.{codeAt, CodeOk, destOf, unit, countAt, SheetLoop}
 use Rattle.sheet.specs.Totals.{landCells, outlets, greatestCount}
 use Rattle.sheet.proofs.Dest.{dest-beyond}
-use Rattle.marked.specs.Table.{Answer, Row, CodesOk, Answers, Says, All}
-use Rattle.marked.specs.Table.Answer.{counted, loop, code-though-loop}
+use Rattle.mosaic.specs.Layout.{sheetRows, sheetCols}
+use Rattle.marked.specs.Table.{Answer, Row, sides, CutAs, Answers, Says, All}
+use Rattle.marked.specs.Table.Answer.{counted, loop, code-though-loop, cut-counted, cut-loop}
 use Rattle.marked.specs.Table.All.{none, and}
-
--- two tests, and both facts
-pub both : (a b : Bool) → a && b ≡ true → (a ≡ true) × (b ≡ true)
-both true b e = (refl, e)
-both false b e = absurd (true≢false (sym e))
+use Rattle.marked.proofs.NetTest.{both, firstb, first-says}
+use Rattle.marked.proofs.CutTest.{joinedb, joinLoopb, joined-says, join-loop-says}
 
 -- ---- the tests
 
@@ -34,14 +30,13 @@ unfoldable pub shapeb : ℕ → ℕ → Bool
 shapeb rows cols = leb 1 rows && (leb rows 4096 && (leb 1 cols && leb cols 4096))
 
 unfoldable pub loopb : ℕ → ℕ → List ℕ → ℕ → ℕ → Bool
-loopb rows cols g p len =
-    ltb p (rows * cols)
-    && (onLoopb (rows * cols) (destOf rows cols g) p
-    && (allb p (λ q. not (onLoopb (rows * cols) (destOf rows cols g) q))
-    && eqb len (loopLength (rows * cols) (destOf rows cols g) p)))
+loopb rows cols g p len = firstb (rows * cols) (destOf rows cols g) p len
 
 unfoldable pub badb : ℕ → List ℕ → ℕ → Bool
 badb n g p = ltb p n && (not (isCode (codeAt g p)) && codesb p g)
+
+unfoldable pub cutb : Row → (heights widths : List ℕ) → Bool
+cutb r heights widths = eqb (sheetRows (length heights) (sides heights)) (r .rows) && eqb (sheetCols (length widths) (sides widths)) (r .cols)
 
 unfoldable pub answerb : Row → Answer → Bool
 answerb r (counted counts land out greatest) =
@@ -54,6 +49,10 @@ answerb r (counted counts land out greatest) =
     && eqb (greatestCount (r .rows) (r .cols) counts) greatest)))))
 answerb r (loop place len) = codesb (r .rows * r .cols) (r .grid) && loopb (r .rows) (r .cols) (r .grid) place len
 answerb r (code-though-loop place loop-place len) = badb (r .rows * r .cols) (r .grid) place && loopb (r .rows) (r .cols) (r .grid) loop-place len
+answerb r (cut-counted heights widths totals counts) =
+    codesb (r .rows * r .cols) (r .grid) && (cutb r heights widths && joinedb (length heights) (length widths) (sides heights) (sides widths) (r .grid) totals counts)
+answerb r (cut-loop heights widths tile border exits) =
+    codesb (r .rows * r .cols) (r .grid) && (cutb r heights widths && joinLoopb (length heights) (length widths) (sides heights) (sides widths) (r .grid) tile border exits)
 
 unfoldable pub saysb : Row → Bool
 saysb r = shapeb (r .rows) (r .cols) && (eqb (length (r .grid)) (r .rows * r .cols) && answerb r (r .answer))
@@ -85,16 +84,18 @@ bad-says n g p e =
 
 loop-says : (rows cols : ℕ) (g : List ℕ) (p len : ℕ) → length g ≡ rows * cols → loopb rows cols g p len ≡ true → SheetLoop rows cols g p len
 unfolding loopb
-loop-says rows cols g p len long e =
-    let n : ℕ = rows * cols in
-    let (a, x) = both (ltb p n) _ e in
-    let (b, y) = both (onLoopb n (destOf rows cols g) p) _ x in
-    let (c, d) = both (allb p (λ q. not (onLoopb n (destOf rows cols g) q))) _ y in
-    record {
-      here = onLoopb-iff n (destOf rows cols g) (dest-beyond rows cols g long) p (ltb-true p n a) .0 b;
-      smallest = λ q l o. true≢false (sym (onLoopb-iff n (destOf rows cols g) (dest-beyond rows cols g long) q (o .0) .1 o) ∙ not-true _ (allb-says p _ c q l));
-      length = eqb-true _ _ d;
-    }
+loop-says rows cols g p len long e = first-says (rows * cols) (destOf rows cols g) (dest-beyond rows cols g long) p len e
+
+cut-says : (r : Row) (heights widths : List ℕ) → cutb r heights widths ≡ true → CutAs r heights widths
+unfolding cutb
+cut-says r heights widths e =
+    let (a, b) = both (eqb (sheetRows (length heights) (sides heights)) (r .rows)) _ e in
+    record { rows-are = eqb-true _ _ a; cols-are = eqb-true _ _ b }
+
+-- the sheet has as many codes as the tiles have cells
+cut-long : (r : Row) (heights widths : List ℕ) → length (r .grid) ≡ r .rows * r .cols → CutAs r heights widths
+    → length (r .grid) ≡ sheetRows (length heights) (sides heights) * sheetCols (length widths) (sides widths)
+cut-long r heights widths long cut = long ∙ sym (ap₂ _*_ (cut .rows-are) (cut .cols-are))
 
 answer-says : (r : Row) → length (r .grid) ≡ r .rows * r .cols → (a : Answer) → answerb r a ≡ true → Answers r a
 unfolding answerb
@@ -121,6 +122,24 @@ answer-says r long (loop place len) e =
 answer-says r long (code-though-loop place loop-place len) e =
     let (a, b) = both (badb (r .rows * r .cols) (r .grid) place) _ e in
     record { bad = bad-says (r .rows * r .cols) (r .grid) place a; first = loop-says (r .rows) (r .cols) (r .grid) loop-place len long b }
+answer-says r long (cut-counted heights widths totals counts) e =
+    let (a, x) = both (codesb (r .rows * r .cols) (r .grid)) _ e in
+    let (b, c) = both (cutb r heights widths) _ x in
+    let cut : CutAs r heights widths = cut-says r heights widths b in
+    record {
+      codes = codes-say (r .rows * r .cols) (r .grid) a;
+      cut-as = cut;
+      joined = joined-says (length heights) (length widths) (sides heights) (sides widths) (r .grid) (cut-long r heights widths long cut) totals counts c;
+    }
+answer-says r long (cut-loop heights widths tile border exits) e =
+    let (a, x) = both (codesb (r .rows * r .cols) (r .grid)) _ e in
+    let (b, c) = both (cutb r heights widths) _ x in
+    let cut : CutAs r heights widths = cut-says r heights widths b in
+    record {
+      codes = codes-say (r .rows * r .cols) (r .grid) a;
+      cut-as = cut;
+      first = join-loop-says (length heights) (length widths) (sides heights) (sides widths) (r .grid) (cut-long r heights widths long cut) tile border exits c;
+    }
 
 -- the law: a row that passes says what is so
 pub row-says : (r : Row) → saysb r ≡ true → Says r
