@@ -1,0 +1,9 @@
+pub mod Agree
+pub mod Steps
+pub mod Strung
+pub mod Ways
+pub mod Read
+pub mod Told
+pub mod Joins
+pub mod Theorem
+pub mod Whole
