@@ -1,21 +1,21 @@
 -- The records of a mosaic in turn: the chain of refusals for each way through the code that reads them, and what a caller learns of each.
 -- Assumes nothing.
 use mathlib.Core.List.{List, [], _∷_}
-use mathlib.Core.Logic.{_⊎_, inl, inr}
+use mathlib.Core.Logic.{inl, inr}
 use mathlib.Core.Path.{_≡_, refl, sym, ap, ap₂, _∙_, transport}
-use Prim.Native.Nat.{ℕ, zero, suc, _+_, _*_, _/_, _%_, _≤_, _<_}
+use Prim.Native.Nat.{ℕ, zero, suc, _+_, _*_, _/_, _%_, _<_}
 use native.Mathlib.Omega.{arith}
 use lib.ListN.{length, getD}
 use Rattle.flow.specs.Net.{sum}
 use Rattle.flow.proofs.Walk.{below}
-use Rattle.promise.specs.Links.{FirstNot, Unless, UnlessAll}
+use Rattle.promise.specs.Links.{FirstNot}
 use Rattle.promise.specs.Links.Unless.{refused, met}
 use Rattle.promise.specs.Links.UnlessAll.{refused-at, met-all}
 use Rattle.promise.specs.Reply.{Reply, numberOf}
 use Rattle.promise.specs.Reply.Reply.{reply}
 use Rattle.promise.proofs.Apart.{values-same}
 use Rattle.mosaic_read.specs.Records.{startOf, bordersOf, PartOk, RecordOk}
-use Rattle.mosaic_read.specs.Read.{faultAt, UnlessRecords, ReadPromise}
+use Rattle.mosaic_read.specs.Read.{faultAt, ReadPromise}
 use Rattle.mosaic_read.specs.Method.{RecordPromise}
 use Rattle.mosaic_read.proofs.OneRecord.{record-parts, parts-record}
 

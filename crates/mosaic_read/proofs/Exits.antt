@@ -1,7 +1,7 @@
 -- What well-formed records say, in the words of crate mosaic (specs/Join): which border cells are land, that each way leads to an exit of the same tile,
 -- and that an exit's arrow steps outside its tile.
 -- Assumes nothing.
-use mathlib.Core.Bool.{true, false, cond, not, _&&_}
+use mathlib.Core.Bool.{true, false}
 use mathlib.Core.List.{List}
 use mathlib.Core.Path.{_≡_, sym, ap, ap₂, _∙_}
 use Prim.Native.Nat.{ℕ, _+_, _*_, _≤_, _<_}
@@ -10,12 +10,11 @@ use lib.Dec.{eqb}
 use borrow.Author.Tests.{eqb-true, eq-eqb, ne-eqb, not-false}
 use Rattle.sheet.specs.Compass.{isArrow, stepOf}
 use Rattle.sheet.specs.Sheet.{stepFrom}
-use Rattle.tile.specs.Border.{borderPlace}
 use Rattle.tile.proofs.Cells.{cells-most}
 use Rattle.mosaic.specs.Layout.{heightOf, widthOf, cellsIn, bordersIn, bordersBefore, allBorders, borderTile, borderIn, placeIn}
 use Rattle.mosaic.specs.Join.{isLand, exitAt, leadsTo}
 use Rattle.mosaic.proofs.Borders.{border-below, border-tile, border-in, tile-in, number-in}
-use Rattle.mosaic_read.specs.Records.{startOf, rowsOf, colsOf, bordersOf, countIn, wayIn, codeIn, heights, widths, Leads, RecordOk}
+use Rattle.mosaic_read.specs.Records.{startOf, rowsOf, colsOf, bordersOf, wayIn, codeIn, heights, widths, Leads}
 use Rattle.mosaic_read.specs.Said.{saidCount, saidWay, saidCode}
 use Rattle.mosaic_read.proofs.AllRecords.{AllOk}
 use Rattle.mosaic_read.proofs.Tests.{both}

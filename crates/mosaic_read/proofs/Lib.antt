@@ -10,3 +10,4 @@ pub mod Shapes
 pub mod Answers
 pub mod Said
 pub mod Exits
+pub mod CaseO

@@ -2,11 +2,10 @@
 -- Assumes nothing.
 use mathlib.Core.List.{List, [], _∷_}
 use mathlib.Core.Path.{_≡_, refl, sym, ap, _∙_, subst}
-use Prim.Native.Nat.{ℕ, zero, suc, _+_, _*_, _≤_, _<_}
+use Prim.Native.Nat.{ℕ, zero, suc, _+_, _*_, _<_}
 use native.Mathlib.Omega.{arith}
 use native.Mathlib.Nat.{mul-le-mul}
 use borrow.Author.Count.{below-more}
-use Rattle.promise.specs.Links.{FirstNot}
 use Rattle.promise.specs.Links.UnlessAll.{refused-at, met-all}
 use Rattle.promise.specs.Reply.Reply.{reply}
 use Rattle.sheet.specs.Shape.{TileShape}

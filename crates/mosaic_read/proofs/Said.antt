@@ -1,15 +1,11 @@
 -- What well-formed records say of the border cells: of border cell b of record t, and of border cell g of the mosaic.
 -- Assumes nothing.
-use mathlib.Core.Bool.{true, false}
 use mathlib.Core.List.{List}
 use mathlib.Core.Logic.{_⊎_, inl, inr}
-use mathlib.Core.Path.{_≡_, sym, ap, ap₂, _∙_}
+use mathlib.Core.Path.{_≡_, ap₂}
 use Prim.Native.Nat.{ℕ, _+_, _*_, _≤_, _<_}
 use native.Mathlib.Omega.{arith}
 use Rattle.flow.proofs.Sum.{same}
-use Rattle.sheet.specs.Compass.{isArrow, stepOf}
-use Rattle.sheet.specs.Sheet.{stepFrom}
-use Rattle.tile.specs.Border.{borderPlace}
 use Rattle.mosaic.specs.Layout.{bordersIn, bordersBefore, borderTile, borderIn}
 use Rattle.mosaic.proofs.Borders.{border-tile, border-in}
 use Rattle.mosaic_read.specs.Records.{startOf, rowsOf, colsOf, bordersOf, countIn, wayIn, codeIn, heights, widths, Leads, RecordOk}

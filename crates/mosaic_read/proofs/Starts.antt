@@ -2,17 +2,16 @@
 -- Assumes nothing.
 use mathlib.Core.List.{List}
 use mathlib.Core.Path.{_≡_, refl, ap, ap₂, _∙_}
-use mathlib.Core.Logic.{_⊎_, inl, inr}
-use Prim.Native.Nat.{ℕ, zero, suc, _+_, _*_, _≤_, _<_}
+use mathlib.Core.Logic.{inl, inr}
+use Prim.Native.Nat.{ℕ, zero, suc, _+_, _*_, _≤_}
 use native.Mathlib.Omega.{arith}
 use lib.ListN.{length}
 use Rattle.flow.specs.Net.{sum}
-use Rattle.flow.proofs.Sum.{sum-suc}
 use Rattle.flow.proofs.Walk.{below}
 use Rattle.sheet.specs.Shape.{TileShape}
 use Rattle.tile.specs.Border.{borderCells}
 use Rattle.mosaic_read.specs.Records.{startOf, rowsAt, colsAt, rowsOf, colsOf, bordersOf, countsStart}
-use Rattle.mosaic_read.specs.Method.{Whole, WholeBefore}
+use Rattle.mosaic_read.specs.Method.{WholeBefore}
 
 module _ (bytes : List ℕ) where
   pub start-none : startOf bytes 0 ≡ 0

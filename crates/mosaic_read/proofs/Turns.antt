@@ -1,8 +1,8 @@
 -- From record to record: the start, and the summed rows and columns so far.
 -- Assumes nothing.
 use mathlib.Core.List.{List}
-use mathlib.Core.Path.{_≡_, refl, sym, ap, _∙_}
-use Prim.Native.Nat.{ℕ, zero, suc, _+_, _*_, _/_, _%_, _≤_, _<_}
+use mathlib.Core.Path.{_≡_, sym, ap, _∙_}
+use Prim.Native.Nat.{ℕ, _+_, _*_, _/_, _%_, _≤_, _<_}
 use native.Mathlib.Omega.{arith}
 use native.Mathlib.Nat.{suc-mul, mod-lt}
 use native.Mathlib.Numerals.{add-one}
@@ -13,7 +13,7 @@ use Rattle.flow.proofs.Sum.{sum-suc, sum-next}
 use Rattle.sheet.proofs.Places.{row-of, col-of}
 use Rattle.mosaic.proofs.Pieces.{spot-is}
 use Rattle.mosaic_read.specs.Records.{startOf, rowsAt, colsAt, bordersOf, heights, widths, RecordOk}
-use Rattle.mosaic_read.specs.Method.{Whole, WholeBefore, Reached}
+use Rattle.mosaic_read.specs.Method.{Whole, Reached}
 use Rattle.mosaic_read.proofs.Starts.{start-none, start-next}
 use Rattle.mosaic_read.proofs.OneRecord.{record-whole}
 

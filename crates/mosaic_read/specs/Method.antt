@@ -11,7 +11,7 @@ use Rattle.promise.specs.Reply.{Reply}
 use Rattle.promise.specs.Reply.Reply.{reply}
 use Rattle.sheet.specs.Shape.{TileShape}
 use Rattle.tile.specs.Border.{borderCells}
-use Rattle.mosaic_read.specs.Records.{startOf, rowsOf, colsOf, bordersOf, heights, widths, waysStart, endAt, PartOk}
+use Rattle.mosaic_read.specs.Records.{startOf, rowsOf, colsOf, bordersOf, heights, widths, PartOk}
 use Rattle.mosaic_read.specs.Read.{faultAt}
 
 -- a test says whether P holds

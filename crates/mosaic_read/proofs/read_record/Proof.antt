@@ -1,11 +1,9 @@
 -- `mosaic_read::read_record` meets its contract: a law of parts for each way through it.
 -- Assumes nothing.
 use native.Mathlib.Omega.{arith}
-use Rattle.mosaic_read.specs.Records.{SidesOk, PlacedOk, CountsOk}
 use Rattle.mosaic_read.proofs.Tests.{says-so, says-not}
 use Rattle.mosaic_read.proofs.Starts.{start-inside}
 use Rattle.mosaic_read.proofs.OneRecord.{tile-of, sides-fault, placed-fault, counts-fault, ways-fault, record-good}
-use borrow.Author.Needs.{needs}
 use Rattle.mosaic_read.proofs.read_record.Statement.{statement}
 use Rattle.mosaic_read.proofs.read_record.Tie as tie
 

@@ -1,10 +1,10 @@
 -- `mosaic_read::read_records` meets its contract: the records before record t are well formed, and it is reached.
 -- Assumes nothing.
 use denote.Ref.{now}
-use mathlib.Core.Path.{_≡_, sym, ap, _∙_}
+use mathlib.Core.Path.{_≡_, ap, _∙_}
 use native.Mathlib.Omega.{arith}
 use lib.ListN.{length}
-use Prim.Native.Nat.{ℕ, _*_, _-_, _≤_}
+use Prim.Native.Nat.{_*_, _-_, _≤_}
 use borrow.Author.Count.{below-more}
 use Rattle.mosaic_read.specs.Records.{startOf, RecordOk}
 use Rattle.mosaic_read.specs.Method.{Reached}

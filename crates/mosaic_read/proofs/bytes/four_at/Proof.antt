@@ -4,9 +4,6 @@ use Rattle.mosaic_read.specs.Records.{fourAt}
 use borrow.Author.Needs.{needs}
 use Rattle.mosaic_read.proofs.bytes.four_at.Statement.{statement}
 use Rattle.mosaic_read.proofs.bytes.four_at.Tie as tie
-use Rattle.mosaic_read.proofs.bytes.four_at.Reads as reads
-use Rattle.mosaic_read.proofs.bytes.four_at.Lts as lts
-use Rattle.mosaic_read.proofs.bytes.two_at.Reads as two-at-reads
 
 two-at-requires : tie.Need-two-at-requires
 two-at-requires c κs = search needs

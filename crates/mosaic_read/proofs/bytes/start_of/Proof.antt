@@ -4,7 +4,7 @@ use denote.Ref.{now}
 use mathlib.Core.Path.{_≡_, sym, ap, _∙_}
 use native.Mathlib.Numerals.{add-one}
 use native.Mathlib.Omega.{arith}
-use Prim.Native.Nat.{suc, _-_, _≤_}
+use Prim.Native.Nat.{_-_, _≤_}
 use Rattle.mosaic_read.specs.Records.{startOf}
 use Rattle.mosaic_read.proofs.Starts.{start-none, start-next, borders-read, shape-read}
 use borrow.Author.Needs.{needs}
