@@ -1,4 +1,5 @@
 // What C and Rust call: one thin function for each operation, with the operation's promise. include/drainage.h declares the same for C.
+pub mod mosaics;
 pub mod tiles;
 
 ghost use mathlib.Core.Path.{_≡_};

@@ -9,7 +9,7 @@ ghost use Rattle.listed_net.specs.Method.{Numbered, Half, Ready, Moved, 
 use promise::Found;
 
 // Where the water of cell p goes.
-fn arrow(to: &[u32], p: usize) -> usize
+pub fn arrow(to: &[u32], p: usize) -> usize
     requires { ⌜ p < length (now to) ⌝ }
     ensures { λ r. ⌜ r ≡ toAt (now (to .entry)) p ⌝ }
 {
