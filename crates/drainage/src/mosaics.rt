@@ -59,7 +59,15 @@ pub extern "C" fn drainage_join(
     ensures { λ r. ⌜ ((s : Reply) × JoinPromise «tile_rows» «tile_cols» (now (records .entry)) (now (incoming .entry)) (works (now (work1 .entry)) (now (work2 .entry)) (now (work3 .entry)) (now (work4 .entry)) (now (work5 .entry))) (ends s (now (incoming .exit)) (works (now (work1 .exit)) (now (work2 .exit)) (now (work3 .exit)) (now (work4 .exit)) (now (work5 .exit)))) × (r ≡ flat s)) ⌝ }
 {
     match mosaic_join::join(
-        tile_rows, tile_cols, records, incoming, work1, work2, work3, work4, work5,
+        tile_rows,
+        tile_cols,
+        records,
+        incoming,
+        work1,
+        work2,
+        work3,
+        work4,
+        work5,
     ) {
         JoinReply::Done => replied(0, 0, 0, 0),
         JoinReply::Layout(byte) => replied(9, byte as u64, 0, 0),

@@ -55,15 +55,15 @@ module _ (I J : ℕ) (bytes : List ℕ) (w : WellFormed I J bytes) where
   -- is a border cell, or none
   pub leads-le : (h : ℕ) → h < borders I J bytes → leads h ≤ borders I J bytes
   leads-le = each-cell I J bytes w (λ h. leads h ≤ borders I J bytes) (λ t b lt lb.
-    let lc : b < bordersIn J (heights bytes J) (widths bytes) t = omega (arith, borders-are w t lt) in
-    elim (same (wayIn bytes t b) 65535) [
-      | inl e ↦ omega (arith, leads-none I J (heights bytes J) (widths bytes) (saidWay bytes I J) (saidCode bytes I J) t b lt lc (said-way w t lt b lb ∙ e))
-      | inr d ↦ omega (
-        arith,
-        leads-way I J (heights bytes J) (widths bytes) (saidWay bytes I J) (saidCode bytes I J) t b lt lc (said-way w t lt b lb) d,
-        cell-below I J bytes w t lt (wayIn bytes t b) (way-below I J bytes w t lt b lb d),
-      )
-    ])
+      let lc : b < bordersIn J (heights bytes J) (widths bytes) t = omega (arith, borders-are w t lt) in
+      elim (same (wayIn bytes t b) 65535) [
+        | inl e ↦ omega (arith, leads-none I J (heights bytes J) (widths bytes) (saidWay bytes I J) (saidCode bytes I J) t b lt lc (said-way w t lt b lb ∙ e))
+        | inr d ↦ omega (
+          arith,
+          leads-way I J (heights bytes J) (widths bytes) (saidWay bytes I J) (saidCode bytes I J) t b lt lc (said-way w t lt b lb) d,
+          cell-below I J bytes w t lt (wayIn bytes t b) (way-below I J bytes w t lt b lb d),
+        )
+      ])
 
   -- and what is written for it is small
   pub leads-most : (h : ℕ) → h < borders I J bytes → leadsBy I J bytes h < 65282

@@ -61,8 +61,8 @@ module _ (I J : ℕ) (bytes : List ℕ) where
       counts-unique (borders I J bytes) (feedsBy I J bytes) out free _ (a .totals) (b .totals) (a .solve) (b .solve) in
       let incoming : e .incoming ≡ f .incoming =
       ext-getD 0 (e .incoming) (f .incoming) (a .long ∙ sym (b .long)) (λ h l.
-        let k : h < borders I J bytes = rw (a .long) at l in
-        a .comes h k ∙ comes-ext (a .totals) (b .totals) totals h ∙ sym (b .comes h k)) in
+      let k : h < borders I J bytes = rw (a .long) at l in
+      a .comes h k ∙ comes-ext (a .totals) (b .totals) totals h ∙ sym (b .comes h k)) in
       let said : e .said ≡ f .said = a .said-is ∙ sym (b .said-is) in
       let work : e .work ≡ f .work = a .work-clear ∙ sym (b .work-clear) in
       λ i. record { said = said i; incoming = incoming i; work = work i }

@@ -13,6 +13,7 @@ use mosaic_step::table::tile_start;
 
 // The mark of a way that leads to no border cell, and the code that says that the border cell is absent.
 const NO_WAY: usize = 65535;
+
 const ABSENT: u8 = 255;
 
 // The exit that border cell b of tile t leads to, by its number in the mosaic, whose border cells are `none` in number; that where the
@@ -45,7 +46,14 @@ fn lead(
 }
 
 // Writes where the border cells of tile t lead.
-fn lead_tile(tile_rows: usize, tile_cols: usize, records: &[u8], table: &[u32], t: usize, leads: &mut [u32])
+fn lead_tile(
+    tile_rows: usize,
+    tile_cols: usize,
+    records: &[u8],
+    table: &[u32],
+    t: usize,
+    leads: &mut [u32],
+)
     requires { ⌜ WellFormed «tile_rows» «tile_cols» (now records) ⌝ }
     requires { ⌜ Table «tile_rows» «tile_cols» (now records) (now table) ⌝ }
     requires { ⌜ t < «tile_rows» * «tile_cols» ⌝ }
@@ -65,7 +73,13 @@ fn lead_tile(tile_rows: usize, tile_cols: usize, records: &[u8], table: &[u32], 
 }
 
 // Writes where all border cells lead.
-pub fn fill_leads(tile_rows: usize, tile_cols: usize, records: &[u8], table: &[u32], leads: &mut [u32])
+pub fn fill_leads(
+    tile_rows: usize,
+    tile_cols: usize,
+    records: &[u8],
+    table: &[u32],
+    leads: &mut [u32],
+)
     requires { ⌜ WellFormed «tile_rows» «tile_cols» (now records) ⌝ }
     requires { ⌜ Table «tile_rows» «tile_cols» (now records) (now table) ⌝ }
     requires { ⌜ length (now leads) ≡ borders «tile_rows» «tile_cols» (now records) ⌝ }

@@ -32,7 +32,11 @@ pub enum JoinReply {
     Layout(usize),
     Record(usize),
     Length,
-    Loop { tile: usize, border: usize, exits: usize },
+    Loop {
+        tile: usize,
+        border: usize,
+        exits: usize,
+    },
 }
 
 // Writes what comes in at each border cell of the mosaic, or refuses.
@@ -64,7 +68,18 @@ pub fn join(
     }
     match read_records(tile_rows, tile_cols, records) {
         ReadReply::Good { borders } => {
-            join_records(tile_rows, tile_cols, records, borders, incoming, work1, work2, work3, work4, work5)
+            join_records(
+                tile_rows,
+                tile_cols,
+                records,
+                borders,
+                incoming,
+                work1,
+                work2,
+                work3,
+                work4,
+                work5,
+            )
         }
         ReadReply::Record(p) => JoinReply::Record(p),
         ReadReply::Layout(p) => JoinReply::Layout(p),
@@ -106,7 +121,17 @@ fn join_records(
     if work5.len() != 128 {
         return JoinReply::Length;
     }
-    join_exits(tile_rows, tile_cols, records, incoming, work1, work2, work3, work4, work5)
+    join_exits(
+        tile_rows,
+        tile_cols,
+        records,
+        incoming,
+        work1,
+        work2,
+        work3,
+        work4,
+        work5,
+    )
 }
 
 // The same where the lengths fit too.
@@ -125,8 +150,27 @@ fn join_exits(
     requires { ⌜ JoinLengths «tile_rows» «tile_cols» (now records) (now incoming) (works (now work1) (now work2) (now work3) (now work4) (now work5)) ⌝ }
     ensures { λ r. ⌜ JoinExits «tile_rows» «tile_cols» (now (records .entry)) (ends (joinReply r) (now (incoming .exit)) (works (now (work1 .exit)) (now (work2 .exit)) (now (work3 .exit)) (now (work4 .exit)) (now (work5 .exit)))) ⌝ }
 {
-    write_net(tile_rows, tile_cols, records, incoming, work1, work2, work3, work5);
-    let r = settle(tile_rows, tile_cols, records, incoming, work1, work2, work3, work4, work5);
+    write_net(
+        tile_rows,
+        tile_cols,
+        records,
+        incoming,
+        work1,
+        work2,
+        work3,
+        work5,
+    );
+    let r = settle(
+        tile_rows,
+        tile_cols,
+        records,
+        incoming,
+        work1,
+        work2,
+        work3,
+        work4,
+        work5,
+    );
     clear_works(work1, work2, work3, work4, work5);
     r
 }
@@ -182,7 +226,11 @@ fn settle(
         NetCounted::Loop { first, length } => {
             let tile = tile_of(tile_rows, tile_cols, records, table, first);
             let border = first - first_border(table, tile);
-            JoinReply::Loop { tile, border, exits: length }
+            JoinReply::Loop {
+                tile,
+                border,
+                exits: length,
+            }
         }
         NetCounted::Done => {
             gather(pours, totals, incoming);
@@ -192,7 +240,13 @@ fn settle(
 }
 
 // Clears the work buffers.
-fn clear_works(work1: &mut [u32], work2: &mut [u32], work3: &mut [u32], work4: &mut [u32], work5: &mut [u32])
+fn clear_works(
+    work1: &mut [u32],
+    work2: &mut [u32],
+    work3: &mut [u32],
+    work4: &mut [u32],
+    work5: &mut [u32],
+)
     ensures { λ _. ⌜ works (now (work1 .exit)) (now (work2 .exit)) (now (work3 .exit)) (now (work4 .exit)) (now (work5 .exit)) ≡ works (replicate (length (now (work1 .entry))) 0) (replicate (length (now (work2 .entry))) 0) (replicate (length (now (work3 .entry))) 0) (replicate (length (now (work4 .entry))) 0) (replicate (length (now (work5 .entry))) 0) ⌝ }
 {
     clear(work1);

@@ -41,7 +41,17 @@ fn pour(
     if cell_way(records, o, n, b) != b {
         return none;
     }
-    let h = onto(tile_rows, tile_cols, records, table, none, t, tile_row, tile_col, b);
+    let h = onto(
+        tile_rows,
+        tile_cols,
+        records,
+        table,
+        none,
+        t,
+        tile_row,
+        tile_col,
+        b,
+    );
     if none <= h {
         return none;
     }
@@ -100,7 +110,20 @@ fn pour_tile(
     let first = first_border(table, t);
     let mut b = 0;
     while b < n {
-        let h = pour(tile_rows, tile_cols, records, table, leads, t, tile_row, tile_col, o, n, first, b);
+        let h = pour(
+            tile_rows,
+            tile_cols,
+            records,
+            table,
+            leads,
+            t,
+            tile_row,
+            tile_col,
+            o,
+            n,
+            first,
+            b,
+        );
         pours[first + b] = h as u32;
         own[first + b] = own_count(tile_rows, tile_cols, records, t, o, n, first, b);
         b += 1;
