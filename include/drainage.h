@@ -6,8 +6,12 @@
  * leaves the sheet or points at an absent cell is an outlet. The count of a land cell is 1 plus the counts of the land
  * neighbours whose arrows step onto it; absent cells have 0.
  *
+ * A sheet may be cut by full rows and columns into tiles, of 1 to 256 rows and columns each. drainage_record writes a
+ * tile's border record, and drainage_finish counts a tile with what comes in at its border. The border cells of a tile
+ * are those in its first or last row or column, numbered from 0 in order of place, each once.
+ *
  * Every pointer must be valid for the length that is passed with it, must not be null, and the buffers of one call must
- * not overlap. All else is taken and answered with a reply.
+ * not overlap. All else is taken and answered with a reply. Work buffers are lent with any contents.
  */
 #ifndef DRAINAGE_H
 #define DRAINAGE_H
@@ -19,7 +23,7 @@
 extern "C" {
 #endif
 
-/* What every function returns: the number of the reply (0 is done, every other number a refusal), and the values that
+/* What every operation returns: the number of the reply (0 is done, every other number a refusal), and the values that
  * come with it, in the order in which they are named at each function. A value that the reply does not have is 0.
  */
 typedef struct {
@@ -90,6 +94,77 @@ drainage_reply drainage_check(size_t rows, size_t cols, const uint8_t *grid, siz
  */
 drainage_reply drainage_mend(size_t rows, size_t cols, uint8_t *grid, size_t grid_len, uint32_t *counts,
                              size_t counts_len, size_t place, uint8_t code);
+
+/* The number of border cells of a tile of rows by cols cells: rows * cols if it has one row or one column, otherwise
+ * 2 * rows + 2 * cols - 4. 0 if rows or cols is not within 1 to 256.
+ */
+size_t drainage_border_cells(size_t rows, size_t cols);
+
+/* The lengths of the work buffers of drainage_record: rows * cols each. 0 if rows or cols is not within 1 to 256.
+ */
+size_t drainage_record_work1(size_t rows, size_t cols);
+size_t drainage_record_work2(size_t rows, size_t cols);
+
+/* Counts a tile by itself and writes its border record.
+ *
+ * rows, cols          the tile's shape, 1 to 256 each
+ * tile_row, tile_col  its position in the mosaic, 0 to 63 each
+ * grid                the codes, read only; grid_len is exactly rows * cols
+ * record              where the record is written; record_len is exactly 17 + 7 * B for the tile's B border cells
+ * work1, work2        work buffers; their lengths are exactly those told by drainage_record_work1 and .._work2
+ *
+ * A record has three fields. Each is a tag of one byte, a length of two bytes, and contents; numbers have their highest
+ * byte first. The way of a border cell is the border number and the code of the cell where its water leaves the tile.
+ * tag 1, length 8      rows, cols, tile_row, tile_col, two bytes each
+ * tag 2, length 4 * B  the count within the tile of each border cell, four bytes each
+ * tag 3, length 3 * B  the way of each border cell, two bytes border number and one byte code; 65535, 255 at an absent
+ *                      cell, and 65535, 0 where the water ends at an absent cell of the tile
+ *
+ * The reply is the first of these refusals that applies, and done if none does:
+ * 1 shape   rows or cols is not within 1 to 256
+ * 9 layout  tile_row or tile_col is above 63; value[0] is 0
+ * 2 length  grid_len, record_len, work1_len or work2_len is another than stated
+ * 3 code    the grid has a bad code; value[0] its first place
+ * 4 loop    the arrows form a loop within the tile; value[0] the smallest place on any loop, value[1] the number of
+ *           cells of that loop
+ * 0 done    no values
+ *
+ * After every refusal record is as it was lent; after 1, 9, 2 and 3 the work buffers are too. After 4 and 0 they hold 0
+ * throughout. The grid is never changed.
+ */
+drainage_reply drainage_record(size_t rows, size_t cols, size_t tile_row, size_t tile_col, const uint8_t *grid,
+                               size_t grid_len, uint8_t *record, size_t record_len, uint32_t *work1, size_t work1_len,
+                               uint32_t *work2, size_t work2_len);
+
+/* The length of the work buffer of drainage_finish: rows * cols. 0 if rows or cols is not within 1 to 256.
+ */
+size_t drainage_finish_work1(size_t rows, size_t cols);
+
+/* Counts a tile with what comes in at its border cells from other tiles.
+ *
+ * rows, cols  the tile's shape, 1 to 256 each
+ * grid        the codes, read only; grid_len is exactly rows * cols
+ * incoming    what comes in at each border cell, read only; incoming_len is exactly the number of border cells
+ * counts      where the counts are written, whatever it holds before; counts_len is exactly rows * cols
+ * work1       a work buffer; its length is exactly that told by drainage_finish_work1
+ *
+ * The reply is the first of these refusals that applies, and done if none does:
+ * 1 shape      rows or cols is not within 1 to 256
+ * 2 length     grid_len, incoming_len, counts_len or work1_len is another than stated
+ * 3 code       the grid has a bad code; value[0] its first place
+ * 10 incoming  what comes in at a border cell is above 4194304, or not 0 where the cell is absent; value[0] the first
+ *              such border number
+ * 4 loop       the arrows form a loop within the tile; value[0] the smallest place on any loop, value[1] the number of
+ *              cells of that loop
+ * 0 done       no values
+ *
+ * After 1, 2, 3 and 10 counts and work1 are as they were lent. After 4 both hold 0 throughout. After 0 counts holds for
+ * every land cell its count within the tile plus what comes in at border cells at it or upstream of it, and 0 at absent
+ * cells; work1 holds 0 throughout. The grid and incoming are never changed.
+ */
+drainage_reply drainage_finish(size_t rows, size_t cols, const uint8_t *grid, size_t grid_len,
+                               const uint32_t *incoming, size_t incoming_len, uint32_t *counts, size_t counts_len,
+                               uint32_t *work1, size_t work1_len);
 
 #ifdef __cplusplus
 }

@@ -27,15 +27,40 @@
 //! assert_eq!(counts, [1, 2, 1, 1, 8, 1, 1, 9, 1]);
 //! ```
 //!
+//! A tile of a sheet has a border record, and is finished from what comes in at its border; here the second tile of case
+//! L of the paper, cut between its rows:
+//!
+//! ```
+//! use drainage::{finish, finish_work, record, record_len, record_work, FinishReply, RecordReply};
+//!
+//! let grid = [1, 64];
+//! let mut bytes = vec![0; record_len(1, 2)];
+//! let [mut work1, mut work2] = record_work(1, 2).map(|length| vec![0; length]);
+//! let reply = record(1, 2, 1, 0, &grid, &mut bytes, [&mut work1, &mut work2]);
+//! assert_eq!(reply, RecordReply::Done);
+//! assert_eq!(bytes[..11], [1, 0, 8, 0, 1, 0, 2, 0, 1, 0, 0]);
+//!
+//! let mut counts = [0; 2];
+//! let mut work = vec![0; finish_work(1, 2)];
+//! assert_eq!(finish(1, 2, &grid, &[1, 0], &mut counts, &mut work), FinishReply::Done);
+//! assert_eq!(counts, [2, 3]);
+//! ```
+//!
 //! One operation stands in one file; the C declarations of all of them are in [`raw`].
 
 #![warn(missing_docs)]
 
+mod border;
 mod check;
 mod count;
+mod finish;
 mod mend;
 pub mod raw;
+mod record;
 
+pub use border::border_cells;
 pub use check::{check, CheckReply};
 pub use count::{count, CountReply};
+pub use finish::{finish, finish_work, FinishReply};
 pub use mend::{mend, MendReply};
+pub use record::{record, record_len, record_work, RecordReply};

@@ -58,4 +58,56 @@ extern "C" {
         place: usize,
         code: u8,
     ) -> Reply;
+
+    /// The number of border cells of a tile; see [`border_cells`](crate::border_cells()).
+    pub fn drainage_border_cells(rows: usize, cols: usize) -> usize;
+
+    /// The length of work1 for writing a record; see [`record_work`](crate::record_work()).
+    pub fn drainage_record_work1(rows: usize, cols: usize) -> usize;
+
+    /// The length of work2 for writing a record; see [`record_work`](crate::record_work()).
+    pub fn drainage_record_work2(rows: usize, cols: usize) -> usize;
+
+    /// Writes a tile's border record; see [`record`](crate::record()).
+    ///
+    /// # Safety
+    /// `grid` must be valid for reading `grid_len` bytes, `record` for reading and writing `record_len` bytes, and the
+    /// work buffers for reading and writing their numbers, also where the call is refused. None may be null, and no two
+    /// may overlap.
+    pub fn drainage_record(
+        rows: usize,
+        cols: usize,
+        tile_row: usize,
+        tile_col: usize,
+        grid: *const u8,
+        grid_len: usize,
+        record: *mut u8,
+        record_len: usize,
+        work1: *mut u32,
+        work1_len: usize,
+        work2: *mut u32,
+        work2_len: usize,
+    ) -> Reply;
+
+    /// The length of the work buffer for finishing; see [`finish_work`](crate::finish_work()).
+    pub fn drainage_finish_work1(rows: usize, cols: usize) -> usize;
+
+    /// Finishes a tile; see [`finish`](crate::finish()).
+    ///
+    /// # Safety
+    /// `grid` must be valid for reading `grid_len` bytes, `incoming` for reading `incoming_len` numbers, and `counts`
+    /// and `work1` for reading and writing theirs, also where the call is refused. None may be null, and what is written
+    /// may not overlap with another.
+    pub fn drainage_finish(
+        rows: usize,
+        cols: usize,
+        grid: *const u8,
+        grid_len: usize,
+        incoming: *const u32,
+        incoming_len: usize,
+        counts: *mut u32,
+        counts_len: usize,
+        work1: *mut u32,
+        work1_len: usize,
+    ) -> Reply;
 }

@@ -13,7 +13,7 @@ use common::lent::Lent;
 use common::notation;
 use common::sheets::{
     self, any_loop_free, any_shape, every_bad_code, every_grid, odd_lengths, one_river, one_round,
-    Absent, Relief, Sheet, GOOD_CODES, ODD_SIDES, SHAPES,
+    opened, Absent, Relief, Sheet, GOOD_CODES, ODD_SIDES, SHAPES,
 };
 use drainage::{check, mend, raw, CheckReply, MendReply};
 
@@ -173,19 +173,6 @@ fn counts_of(sheet: &Sheet) -> Option<Vec<u32>> {
 
 fn counts_of_loop_free(sheet: &Sheet) -> Vec<u32> {
     counts_of(sheet).expect("the sheet was made without loops")
-}
-
-/// Any arrows at all, with the first cell of each loop made absent until there is none: short waters in all directions.
-fn opened(draw: &mut Draw, rows: usize, cols: usize) -> Sheet {
-    let absent = Absent(draw.below(6));
-    let mut sheet = sheets::arbitrary(draw, rows, cols, absent, &GOOD_CODES);
-    loop {
-        let counted = independent::count(rows, cols, &sheet.grid, sheet.grid.len());
-        if counted.number == 0 {
-            return sheet;
-        }
-        sheet.grid[counted.value[0] as usize] = draw.pick(&[0, 255]);
-    }
 }
 
 fn any_sheet(draw: &mut Draw, rows: usize, cols: usize) -> Sheet {

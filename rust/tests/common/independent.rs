@@ -3,7 +3,7 @@
 
 /// Paper 01, "Arrows and land".
 #[derive(Clone, Copy)]
-enum Compass {
+pub enum Compass {
     East,
     SouthEast,
     South,
@@ -14,13 +14,13 @@ enum Compass {
     NorthEast,
 }
 
-enum Meaning {
+pub enum Meaning {
     Arrow(Compass),
     Absent,
     Bad,
 }
 
-fn meaning(code: u8) -> Meaning {
+pub fn meaning(code: u8) -> Meaning {
     match code {
         1 => Meaning::Arrow(Compass::East),
         2 => Meaning::Arrow(Compass::SouthEast),
@@ -36,7 +36,7 @@ fn meaning(code: u8) -> Meaning {
 }
 
 /// The place next to this one in that direction, if the sheet has it.
-fn neighbour(rows: usize, cols: usize, place: usize, direction: Compass) -> Option<usize> {
+pub fn neighbour(rows: usize, cols: usize, place: usize, direction: Compass) -> Option<usize> {
     let (row, col) = (place / cols, place % cols);
     let north = if row == 0 { None } else { Some(row - 1) };
     let south = if row == rows - 1 { None } else { Some(row + 1) };
@@ -57,7 +57,7 @@ fn neighbour(rows: usize, cols: usize, place: usize, direction: Compass) -> Opti
 
 /// Where the water of a cell goes.
 #[derive(Clone, Copy)]
-enum Water {
+pub enum Water {
     /// An absent cell has none.
     None,
     /// Off the sheet or onto an absent cell.
@@ -67,7 +67,7 @@ enum Water {
 }
 
 /// Where the water of every cell goes, or the first place with a bad code.
-fn waters(rows: usize, cols: usize, grid: &[u8]) -> Result<Vec<Water>, usize> {
+pub fn waters(rows: usize, cols: usize, grid: &[u8]) -> Result<Vec<Water>, usize> {
     let mut waters = Vec::with_capacity(grid.len());
     for (place, &code) in grid.iter().enumerate() {
         waters.push(match meaning(code) {
@@ -235,7 +235,8 @@ pub struct Outcome {
     pub counts: After<u32>,
 }
 
-fn values(given: &[usize]) -> [u64; 6] {
+/// The values of a reply, 0 where there is none.
+pub fn values(given: &[usize]) -> [u64; 6] {
     let mut value = [0; 6];
     for (slot, &number) in value.iter_mut().zip(given) {
         *slot = number as u64;

@@ -10,3 +10,4 @@ pub mod lent;
 pub mod notation;
 pub mod sheets;
 pub mod text;
+pub mod tile;

@@ -438,3 +438,80 @@ pub fn odd_lengths(rows: usize, cols: usize) -> [usize; 8] {
         2 * right,
     ]
 }
+
+/// The same for tiles.
+pub const ODD_TILE_SIDES: [usize; 18] = [
+    0,
+    1,
+    2,
+    5,
+    255,
+    256,
+    257,
+    512,
+    4096,
+    65536,
+    65537,
+    1 << 31,
+    (1 << 32) - 1,
+    1 << 32,
+    (1 << 32) + 1,
+    (1 << 32) + 256,
+    1 << 63,
+    usize::MAX,
+];
+
+/// Shapes of tiles for buffers of wrong lengths.
+pub const TILE_SHAPES: [(usize, usize); 9] = [
+    (1, 1),
+    (1, 2),
+    (2, 1),
+    (2, 2),
+    (3, 4),
+    (7, 1),
+    (1, 256),
+    (16, 16),
+    (40, 33),
+];
+
+/// A tile of any kind: without loops for the greater part, else with any arrows, with a loop, or with a bad code.
+pub fn any_tile(draw: &mut Draw, rows: usize, cols: usize) -> Sheet {
+    let absent = Absent(draw.below(8));
+    match draw.below(8) {
+        0 => arbitrary(draw, rows, cols, absent, &GOOD_CODES),
+        1 => {
+            let mut tile = any_loop_free(draw, rows, cols);
+            close_a_loop(draw, &mut tile);
+            tile
+        }
+        2 => {
+            let mut tile = any_loop_free(draw, rows, cols);
+            for _ in 0..draw.within(1, 2) {
+                let place = draw.below(rows * cols);
+                tile.grid[place] = draw.pick(&every_bad_code());
+            }
+            tile
+        }
+        3 => opened(draw, rows, cols),
+        _ => any_loop_free(draw, rows, cols),
+    }
+}
+
+/// Any arrows at all, with a cell of each loop made absent until there is none: short waters in all directions.
+pub fn opened(draw: &mut Draw, rows: usize, cols: usize) -> Sheet {
+    let absent = Absent(draw.below(6));
+    let mut sheet = arbitrary(draw, rows, cols, absent, &GOOD_CODES);
+    for start in 0..sheet.grid.len() {
+        // A walk of more steps than there are cells goes round a loop.
+        let mut place = start;
+        let mut steps = 0;
+        while let Some(next) = sheet.next(place) {
+            place = next;
+            steps += 1;
+            if steps > sheet.grid.len() {
+                sheet.grid[place] = absent_code(draw);
+            }
+        }
+    }
+    sheet
+}
