@@ -6,9 +6,10 @@
  * leaves the sheet or points at an absent cell is an outlet. The count of a land cell is 1 plus the counts of the land
  * neighbours whose arrows step onto it; absent cells have 0.
  *
- * A sheet may be cut by full rows and columns into tiles, of 1 to 256 rows and columns each. drainage_record writes a
- * tile's border record, and drainage_finish counts a tile with what comes in at its border. The border cells of a tile
- * are those in its first or last row or column, numbered from 0 in order of place, each once.
+ * A sheet may be cut by full rows and columns into tiles, of 1 to 256 rows and columns each, and counted tile by tile:
+ * drainage_record writes each tile's border record, drainage_join joins the records of the mosaic, and drainage_finish
+ * counts each tile with what comes in at its border. The border cells of a tile are those in its first or last row or
+ * column, numbered from 0 in order of place, each once.
  *
  * Every pointer must be valid for the length that is passed with it, must not be null, and the buffers of one call must
  * not overlap. All else is taken and answered with a reply. Work buffers are lent with any contents.
@@ -135,6 +136,52 @@ size_t drainage_record_work2(size_t rows, size_t cols);
 drainage_reply drainage_record(size_t rows, size_t cols, size_t tile_row, size_t tile_col, const uint8_t *grid,
                                size_t grid_len, uint8_t *record, size_t record_len, uint32_t *work1, size_t work1_len,
                                uint32_t *work2, size_t work2_len);
+
+/* The lengths of the work buffers of drainage_join for a mosaic whose tiles have border_cells border cells together:
+ * border_cells for the first four, and 128 for the fifth.
+ */
+size_t drainage_join_work1(size_t border_cells);
+size_t drainage_join_work2(size_t border_cells);
+size_t drainage_join_work3(size_t border_cells);
+size_t drainage_join_work4(size_t border_cells);
+size_t drainage_join_work5(size_t border_cells);
+
+/* Joins the border records of a mosaic.
+ *
+ * tile_rows, tile_cols  how the mosaic is cut: at least one of each, and at most 64 tiles
+ * records               the record of each tile, one after the other, tile row by tile row, read only
+ * incoming              where it is written what comes in at each border cell from other tiles, in the order of the
+ *                       records, whatever it holds before; incoming_len is exactly the number of border cells of all
+ *                       tiles together
+ * work1 .. work5        work buffers; their lengths are exactly those told by drainage_join_work1 .. _work5
+ *
+ * An exit is a border cell whose way is itself. Its total is its own count plus all that comes in at border cells with
+ * that way. What comes in at a border cell is the sum of the totals of the exits of other tiles that step onto it; an
+ * exit that steps onto an absent cell or off the mosaic feeds nobody.
+ *
+ * The reply is the first of these refusals that applies, and done if none does:
+ * 9 layout  tile_rows or tile_cols is 0, or there are more than 64 tiles; value[0] is 0
+ * then, for each record in turn, whichever is met first:
+ * 8 record  a field is cut short or has another tag, length or contents than drainage_record writes: sides not within
+ *           1 to 256, a count above the tile's number of cells, an absent mark without a count of 0 or a count of 0
+ *           without it, a way that is not that of an exit of the tile; value[0] the first byte of that field.
+ *           Or there are bytes after the last record; value[0] the first of them
+ * 9 layout  the record is not that of the tile whose turn it is, or has other rows than its tile row or other columns
+ *           than its tile column, or the tiles so far have more than 4096 rows or columns together; value[0] the first
+ *           byte of the record
+ * and then:
+ * 2 length  incoming_len or the length of a work buffer is another than stated
+ * 4 loop    exits feed each other round; value[0] the smallest tile number of all exits on any loop, value[1] the
+ *           smallest border number of such exits of that tile, value[2] the number of exits on the loop of that exit
+ * 0 done    no values
+ *
+ * After 9, 8 and 2 incoming and the work buffers are as they were lent. After 4 all of them hold 0 throughout. After 0
+ * incoming holds what comes in at each border cell, and the work buffers 0 throughout. The records are never changed.
+ */
+drainage_reply drainage_join(size_t tile_rows, size_t tile_cols, const uint8_t *records, size_t records_len,
+                             uint32_t *incoming, size_t incoming_len, uint32_t *work1, size_t work1_len,
+                             uint32_t *work2, size_t work2_len, uint32_t *work3, size_t work3_len, uint32_t *work4,
+                             size_t work4_len, uint32_t *work5, size_t work5_len);
 
 /* The length of the work buffer of drainage_finish: rows * cols. 0 if rows or cols is not within 1 to 256.
  */

@@ -27,23 +27,39 @@
 //! assert_eq!(counts, [1, 2, 1, 1, 8, 1, 1, 9, 1]);
 //! ```
 //!
-//! A tile of a sheet has a border record, and is finished from what comes in at its border; here the second tile of case
-//! L of the paper, cut between its rows:
+//! A sheet that is cut by full rows and columns into tiles is counted tile by tile: each tile's border record is
+//! written, the records are joined, and each tile is finished from what comes in at its border. Here case L of the
+//! paper, cut between its rows; the water goes down into the second tile and comes back:
 //!
 //! ```
-//! use drainage::{finish, finish_work, record, record_len, record_work, FinishReply, RecordReply};
+//! use drainage::{border_cells, finish, finish_work, join, join_work, record, record_len, record_work};
+//! use drainage::{FinishReply, JoinReply, RecordReply};
 //!
-//! let grid = [1, 64];
-//! let mut bytes = vec![0; record_len(1, 2)];
-//! let [mut work1, mut work2] = record_work(1, 2).map(|length| vec![0; length]);
-//! let reply = record(1, 2, 1, 0, &grid, &mut bytes, [&mut work1, &mut work2]);
-//! assert_eq!(reply, RecordReply::Done);
-//! assert_eq!(bytes[..11], [1, 0, 8, 0, 1, 0, 2, 0, 1, 0, 0]);
+//! let tiles = [[4, 1], [1, 64]];
+//! let mut records = Vec::new();
+//! for (tile_row, grid) in tiles.iter().enumerate() {
+//!     let mut bytes = vec![0; record_len(1, 2)];
+//!     let [mut work1, mut work2] = record_work(1, 2).map(|length| vec![0; length]);
+//!     let reply = record(1, 2, tile_row, 0, grid, &mut bytes, [&mut work1, &mut work2]);
+//!     assert_eq!(reply, RecordReply::Done);
+//!     records.extend(bytes);
+//! }
 //!
-//! let mut counts = [0; 2];
-//! let mut work = vec![0; finish_work(1, 2)];
-//! assert_eq!(finish(1, 2, &grid, &[1, 0], &mut counts, &mut work), FinishReply::Done);
-//! assert_eq!(counts, [2, 3]);
+//! let cells = 2 * border_cells(1, 2);
+//! let mut incoming = vec![0; cells];
+//! let mut work = join_work(cells).map(|length| vec![0; length]);
+//! let reply = join(2, 1, &records, &mut incoming, work.each_mut().map(|work| &mut work[..]));
+//! assert_eq!(reply, JoinReply::Done);
+//! assert_eq!(incoming, [0, 3, 1, 0]);
+//!
+//! let mut counts = [[0; 2]; 2];
+//! for (tile_row, grid) in tiles.iter().enumerate() {
+//!     let mut work = vec![0; finish_work(1, 2)];
+//!     let incoming = &incoming[2 * tile_row..][..2];
+//!     let reply = finish(1, 2, grid, incoming, &mut counts[tile_row], &mut work);
+//!     assert_eq!(reply, FinishReply::Done);
+//! }
+//! assert_eq!(counts, [[1, 4], [2, 3]]);
 //! ```
 //!
 //! One operation stands in one file; the C declarations of all of them are in [`raw`].
@@ -54,6 +70,7 @@ mod border;
 mod check;
 mod count;
 mod finish;
+mod join;
 mod mend;
 pub mod raw;
 mod record;
@@ -62,5 +79,6 @@ pub use border::border_cells;
 pub use check::{check, CheckReply};
 pub use count::{count, CountReply};
 pub use finish::{finish, finish_work, FinishReply};
+pub use join::{join, join_work, JoinReply, JOIN_WORKS};
 pub use mend::{mend, MendReply};
 pub use record::{record, record_len, record_work, RecordReply};

@@ -110,4 +110,43 @@ extern "C" {
         work1: *mut u32,
         work1_len: usize,
     ) -> Reply;
+
+    /// The length of work1 for joining; see [`join_work`](crate::join_work()).
+    pub fn drainage_join_work1(border_cells: usize) -> usize;
+
+    /// The length of work2 for joining; see [`join_work`](crate::join_work()).
+    pub fn drainage_join_work2(border_cells: usize) -> usize;
+
+    /// The length of work3 for joining; see [`join_work`](crate::join_work()).
+    pub fn drainage_join_work3(border_cells: usize) -> usize;
+
+    /// The length of work4 for joining; see [`join_work`](crate::join_work()).
+    pub fn drainage_join_work4(border_cells: usize) -> usize;
+
+    /// The length of work5 for joining; see [`join_work`](crate::join_work()).
+    pub fn drainage_join_work5(border_cells: usize) -> usize;
+
+    /// Joins the records of a mosaic; see [`join`](crate::join()).
+    ///
+    /// # Safety
+    /// `records` must be valid for reading `records_len` bytes, and `incoming` and the work buffers for reading and
+    /// writing their numbers, also where the call is refused. None may be null, and no two may overlap.
+    pub fn drainage_join(
+        tile_rows: usize,
+        tile_cols: usize,
+        records: *const u8,
+        records_len: usize,
+        incoming: *mut u32,
+        incoming_len: usize,
+        work1: *mut u32,
+        work1_len: usize,
+        work2: *mut u32,
+        work2_len: usize,
+        work3: *mut u32,
+        work3_len: usize,
+        work4: *mut u32,
+        work4_len: usize,
+        work5: *mut u32,
+        work5_len: usize,
+    ) -> Reply;
 }
