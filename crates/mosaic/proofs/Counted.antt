@@ -20,6 +20,7 @@ use Rattle.sheet.proofs.Dest.{dest-beyond}
 use Rattle.tile.specs.Border.{onBorder}
 use Rattle.mosaic.specs.Layout.{sheetRows, sheetCols, heightOf, widthOf, cellsIn, tileAt, allBorders, borderTile, borderIn, placeIn, borderAt, Cut, Fits, borderOf}
 use Rattle.mosaic.specs.Join.{exitAt, leadsTo, feeds, own, Totals, comesIn, comesAt, TilesFree, Tells}
+use Rattle.mosaic.proofs.Pieces.{sum-most}
 use Rattle.mosaic.proofs.Grid.{tile-below}
 use Rattle.mosaic.proofs.Borders.{at-below, of-below, of-at, border-on}
 use Rattle.mosaic.proofs.Cuts.{cutAt, same-land}
@@ -29,15 +30,10 @@ use Rattle.mosaic.proofs.Feeds.{landsOn, records, comes-is}
 use Rattle.mosaic.proofs.Tiled.{tile-free, whole}
 
 -- an allowed mosaic has at most 4,194,304 cells
-sides-most : (k : ℕ) (f : ℕ → ℕ) → ((i : ℕ) → i < k → f i ≤ 256) → sum k f ≤ k * 256
-unfolding sum
-sides-most zero f h = omega arith
-sides-most (suc k) f h = omega (arith, sides-most k f (λ i l. h i (omega arith)), h k (omega arith))
-
 pub cells-fit : (I J : ℕ) (hs ws : ℕ → ℕ) → Fits I J hs ws → sheetRows I hs * sheetCols J ws ≤ 4194304
 cells-fit I J hs ws fits =
-    let a : sum I hs ≤ I * 256 = sides-most I hs (λ i l. fits .heights i l .1) in
-    let b : sum J ws ≤ J * 256 = sides-most J ws (λ j l. fits .widths j l .1) in
+    let a : sum I hs ≤ I * 256 = sum-most I 256 hs (λ i l. fits .heights i l .1) in
+    let b : sum J ws ≤ J * 256 = sum-most J 256 ws (λ j l. fits .widths j l .1) in
     let c : sum I hs * sum J ws ≤ I * 256 * (J * 256) = mul-le-mul a b in
     omega (arith, fits .tiles-most, mul-mul-mul-comm I 256 J 256)
 

@@ -1,5 +1,5 @@
--- Sheets L, M and N of paper 01, cut and joined, computed from the definitions: L's water goes down and comes back, M's loop is found by the join alone, and N's
--- water goes through the corner of four tiles.
+-- Sheet N of paper 01, cut and joined, computed from the definitions: its water goes through the corner of four tiles. (L and M stand in the table of marked
+-- sheets, crate marked.)
 -- Assumes nothing.
 use mathlib.Core.List.{List, [], _∷_, _++_}
 use mathlib.Core.Path.{_≡_, refl}
@@ -39,20 +39,9 @@ came I J hs ws tiles totals = values (allBorders I J hs ws) (comesIn I J hs ws (
 abbrev ones : ℕ → ℕ
 ones i = 1
 
-abbrev twos : ℕ → ℕ
-twos i = 2
-
-abbrev L : List (List ℕ)
-L = (4 ∷ 1 ∷ []) ∷ (1 ∷ 64 ∷ []) ∷ []
-
-abbrev M : List (List ℕ)
-M = (1 ∷ []) ∷ (16 ∷ []) ∷ []
-
 abbrev N : List (List ℕ)
 N = (2 ∷ []) ∷ (255 ∷ []) ∷ (255 ∷ []) ∷ (2 ∷ []) ∷ []
 
-joined : (fed 2 1 ones twos L ≡ 3 ∷ 4 ∷ 4 ∷ 1 ∷ []) × (came 2 1 ones twos L (1 ∷ 4 ∷ 0 ∷ 3 ∷ []) ≡ 0 ∷ 3 ∷ 1 ∷ 0 ∷ [])
-    × (fed 1 2 ones ones M ≡ 1 ∷ 0 ∷ [])
-    × (fed 2 2 ones ones N ≡ 3 ∷ 4 ∷ 4 ∷ 4 ∷ []) × (came 2 2 ones ones N (1 ∷ 0 ∷ 0 ∷ 2 ∷ []) ≡ 0 ∷ 0 ∷ 0 ∷ 1 ∷ [])
+joined : (fed 2 2 ones ones N ≡ 3 ∷ 4 ∷ 4 ∷ 4 ∷ []) × (came 2 2 ones ones N (1 ∷ 0 ∷ 0 ∷ 2 ∷ []) ≡ 0 ∷ 0 ∷ 0 ∷ 1 ∷ [])
 unfolding values sum last lastIn lineOf isArrow stepOf landAt stepFrom destOf edgeAt onBorder borderCells borderNumber nth borderPlace crosses lastCell wayAt tileAt piece bordersIn borderTile borderIn firstBelow isLand exitAt onto leadsTo feeds comesIn
-joined = (refl, refl, refl, refl, refl)
+joined = (refl, refl)

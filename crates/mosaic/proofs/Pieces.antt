@@ -30,6 +30,12 @@ same-spot cols p q r c = sym (spot-is cols p) ∙ ap₂ (λ (x y : ℕ). x * col
 
 -- ---- pieces
 
+-- pieces that are at most m long
+pub sum-most : (k m : ℕ) (f : ℕ → ℕ) → ((i : ℕ) → i < k → f i ≤ m) → sum k f ≤ k * m
+unfolding sum
+sum-most zero m f h = omega arith
+sum-most (suc k) m f h = omega (arith, sum-most k m f (λ i l. h i (omega arith)), h k (omega arith))
+
 -- a later piece starts no earlier
 pub starts-rise : (f : ℕ → ℕ) (i j : ℕ) → i ≤ j → sum i f ≤ sum j f
 starts-rise f i zero l = let e : i ≡ 0 = omega arith in omega (arith, ap (λ (x : ℕ). sum x f) e)

@@ -14,7 +14,7 @@ use Rattle.tile.proofs.Cells.{cells-most}
 use Rattle.mosaic.specs.Join.{exitAt, own}
 use Rattle.mosaic.specs.Layout.{bordersIn, bordersBefore, borderTile, borderIn}
 use Rattle.mosaic.proofs.Borders.{border-below, border-tile, border-in, each-border}
-use Rattle.mosaic.proofs.Pieces.{starts-rise}
+use Rattle.mosaic.proofs.Pieces.{starts-rise, sum-most}
 use Rattle.mosaic_read.specs.Records.{startOf, rowsOf, colsOf, bordersOf, countIn, wayIn, codeIn, heights, widths, endAt, WayOk}
 use Rattle.mosaic_read.specs.Said.{saidCount, saidWay, saidCode}
 use Rattle.mosaic_step.specs.Table.{WellFormed}
@@ -22,12 +22,6 @@ use Rattle.mosaic_step.proofs.Known.{borders-are, before-next, said-count}
 use Rattle.mosaic_step.proofs.Known as K
 use Rattle.mosaic_join.specs.Joining.{borders}
 use Rattle.mosaic_join.specs.Method.{ownBy, firstOf}
-
--- a sum of numbers that are at most m
-pub sum-most : (n m : ℕ) (f : ℕ → ℕ) → ((q : ℕ) → q < n → f q ≤ m) → sum n f ≤ n * m
-unfolding sum
-sum-most zero m f h = omega arith
-sum-most (suc n) m f h = omega (arith, sum-most n m f (λ q l. h q (omega arith)), h n (omega arith))
 
 module _ (I J : ℕ) (bytes : List ℕ) (w : WellFormed I J bytes) where
   module _ (t : ℕ) (lt : t < I * J) where

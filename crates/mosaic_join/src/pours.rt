@@ -161,10 +161,10 @@ fn feed(leads: &[u32], pours: &[u32], g: usize) -> u32
     requires { ⌜ g < length (now pours) ⌝ }
     ensures { λ r. ⌜ r ≡ feedAt (now (leads .entry)) (now (pours .entry)) g ⌝ }
 {
-    let none = pours.len();
+    let all = pours.len();
     let h = pours[g] as usize;
-    if none <= h {
-        return none as u32;
+    if all <= h {
+        return all as u32;
     }
     leads[h]
 }

@@ -7,9 +7,9 @@ use native.Mathlib.Omega.{arith}
 use lib.ListN.{length}
 use Rattle.sheet.specs.Leaves.{Cell}
 use Rattle.sheet.specs.Shape.{TileShape}
+use Rattle.sheet.proofs.Gather.{number-le}
 use Rattle.sheet.proofs.Spots.{cell-fits}
 use Rattle.tile.specs.Border.{onBorder, borderNumber}
-use Rattle.tile.proofs.Rank.{number-le}
 use Rattle.mosaic.specs.Layout.{heightOf, widthOf}
 use Rattle.mosaic_read.specs.Records.{rowsAt, colsAt, heights, widths}
 use Rattle.mosaic_step.specs.Table.{WellFormed, Table, startIn}
@@ -18,7 +18,7 @@ use Rattle.mosaic_step.proofs.Known.{tile-shape, height-is, width-is, r
 -- the number of a border cell in its tile fits
 pub number-small : {rows cols r c : ℕ} → Cell rows cols r c → borderNumber rows cols (r * cols + c) < 16777216
 unfolding borderNumber
-number-small {rows} {cols} {r} {c} s = omega (arith, number-le (onBorder rows cols) (r * cols + c), cell-fits s)
+number-small {rows} {cols} {r} {c} s = omega (arith, number-le (r * cols + c) (onBorder rows cols), cell-fits s)
 
 -- the number by other names of the tile's sides
 pub number-by : (r c : ℕ) {rows cols rows' cols' n : ℕ} → rows ≡ rows' → cols ≡ cols' → n ≡ borderNumber rows cols (r * cols + c) → n ≡ borderNumber rows' cols' (r * cols' + c)

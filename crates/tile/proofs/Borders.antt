@@ -4,8 +4,9 @@ use mathlib.Core.Path.{_≡_, sym, ap, _∙_}
 use mathlib.Core.Bool.{true}
 use Prim.Native.Nat.{ℕ, _*_, _≤_, _<_}
 use native.Mathlib.Omega.{arith}
+use Rattle.sheet.proofs.Gather.{number-le}
 use Rattle.tile.specs.Border.{onBorder, borderCells, borderNumber, borderPlace}
-use Rattle.tile.proofs.Rank.{number-le, rank-rises, nth-is, nth-of, nth-rises}
+use Rattle.tile.proofs.Rank.{rank-rises, nth-is, nth-of, nth-rises}
 
 module _ (rows cols : ℕ) where
   -- ---- the place of border cell b
@@ -53,4 +54,4 @@ module _ (rows cols : ℕ) where
 
   pub cells-le : borderCells rows cols ≤ rows * cols
   unfolding borderCells
-  cells-le = number-le (onBorder rows cols) (rows * cols)
+  cells-le = number-le (rows * cols) (onBorder rows cols)

@@ -7,7 +7,7 @@ use Prim.Native.Nat.{ℕ, zero, suc, _+_, _≤_, _<_}
 use native.Mathlib.Omega.{arith}
 use borrow.Author.Tests.{lt-ltb, le-ltb}
 use Rattle.flow.specs.Net.{on, sum, number}
-use Rattle.flow.proofs.Sum.{test, on-true, on-false, sum-suc, sum-mono, sum-ones}
+use Rattle.flow.proofs.Sum.{test, on-true, on-false, sum-suc}
 use Rattle.flow.proofs.Walk.{below}
 use Rattle.tile.specs.Border.{nth}
 
@@ -34,8 +34,6 @@ module _ (t : ℕ → Bool) where
       ]
 
   -- not more numbers pass than there are
-  pub number-le : (n : ℕ) → number n t ≤ n
-  number-le n = omega (arith, sum-mono {n = n} {f = λ q. on (t q) 1} {g = λ q. 1} (λ q l. elim (test (t q)) [ inl e ↦ omega (arith, on-true 1 e) | inr e ↦ omega (arith, on-false 1 e) ]), sum-ones n)
 
   -- a number that passes has fewer before it than any later number
   pub rank-rises : (p q : ℕ) → p < q → t p ≡ true → number p t < number q t
