@@ -20,7 +20,7 @@ use Rattle.flow.proofs.Sum.{sum-mono, sum-ones}
 use Rattle.sheet.specs.Shape.{Within, SheetShape}
 use Rattle.sheet.specs.Sheet.{SheetCounts, SheetLengths, passes, countAt}
 use Rattle.sheet.proofs.Passes.{count-is-passing}
-use Rattle.count.specs.Count.{CountPromise, CountCells, CountEnd, ends}
+use Rattle.count.specs.Count.{CountPromise, CountCells, CountOutcome, ends}
 use Rattle.text.specs.Text.{lines, Sides, FirstLine, Proper, StopsAt}
 use Rattle.text.specs.Read.{Parses, kept}
 use Rattle.text.specs.declared.Text.the-variants as P
@@ -42,18 +42,18 @@ module _ (rows cols : ℕ) (grid counts out : List ℕ) (lent : Lent rows cols g
       record { some-row = w .some-row; rows-most = omega (arith, w .rows-most); some-col = w .some-col; cols-most = omega (arith, w .cols-most) }
 
   -- 1 and 2 are passed
-  cells : (e : CountEnd) → CountPromise rows cols grid counts e → CountCells rows cols grid counts e
+  cells : (e : CountOutcome) → CountPromise rows cols grid counts e → CountCells rows cols grid counts e
   cells e p = unless-ok (unless-ok p shape) (record { grid-long = lent .grid-long; counts-long = lent .counts-long })
 
-  shows : (e : CountEnd) → CountCells rows cols grid counts e → Told rows cols grid (shown rows cols (e .counts) (e .said))
+  shows : (e : CountOutcome) → CountCells rows cols grid counts e → Told rows cols grid (shown rows cols (e .counts) (e .said))
   unfolding shown
-  shows e (refused-at p f is) = refused-at p f (ap (λ (x : CountEnd). shown rows cols (x .counts) (x .said)) is)
-  shows e (met-all a (refused-with v l is)) = met-all a (refused-with v l (ap (λ (x : CountEnd). shown rows cols (x .counts) (x .said)) is))
+  shows e (refused-at p f is) = refused-at p f (ap (λ (x : CountOutcome). shown rows cols (x .counts) (x .said)) is)
+  shows e (met-all a (refused-with v l is)) = met-all a (refused-with v l (ap (λ (x : CountOutcome). shown rows cols (x .counts) (x .said)) is))
   shows e (met-all a (met-none n d)) =
       met-all a (met-none n (given (e .counts) (record { long = d .long; equation = d .equation }) (ap (shown rows cols (e .counts)) (d .said-is))))
 
   -- an answer of counting, as it is written, is what is to be told
-  pub told : (e : CountEnd) → CountPromise rows cols grid counts e → Told rows cols grid (shown rows cols (e .counts) (e .said))
+  pub told : (e : CountOutcome) → CountPromise rows cols grid counts e → Told rows cols grid (shown rows cols (e .counts) (e .said))
   told e p = shows e (cells e p)
 
   -- no count exceeds the number of cells
@@ -70,7 +70,7 @@ module _ (rows cols : ℕ) (grid counts out : List ℕ) (lent : Lent rows cols g
     | inr l ↦ omega (arith, List·getD-eq-default c 0 {n = i} (omega arith))
   ]
 
-  counted-room : (e : CountEnd) (land exits most : ℕ) → e .said ≡ reply 0 (land ∷ exits ∷ most ∷ []) → CountCells rows cols grid counts e
+  counted-room : (e : CountOutcome) (land exits most : ℕ) → e .said ≡ reply 0 (land ∷ exits ∷ most ∷ []) → CountCells rows cols grid counts e
       → (length (e .counts) ≡ rows * cols) × (200 + length (lines rows cols (e .counts)) ≤ length out)
   counted-room e land exits most s (refused-at p f is) = absurd (let z : _≡_ {A = ℕ} 0 1 = cc in omega arith)
   counted-room e land exits most s (met-all a (refused-with v l is)) = absurd (let z : _≡_ {A = ℕ} 0 1 = cc in omega arith)

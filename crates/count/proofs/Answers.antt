@@ -13,9 +13,9 @@ use Rattle.promise.specs.Reply.Reply.{reply}
 use Rattle.flow.specs.Net.{number, loopLength}
 use Rattle.flow.proofs.Loop.{first-loop-free}
 use Rattle.flow.proofs.Sum.{test}
-use Rattle.sheet.specs.Sheet.{landAt, destOf, countAt, SheetLoop, SheetOnLoop}
+use Rattle.sheet.specs.Sheet.{landAt, destOf, countAt, FirstSheetLoop, SheetOnLoop}
 use Rattle.sheet.specs.Totals.{greatestBelow}
-use Rattle.count.specs.Count.{Answered, CountEnd, ends}
+use Rattle.count.specs.Count.{Answered, CountOutcome, ends}
 use Rattle.count.specs.Method.{Counting, NotLeft, found, leftAt}
 use Rattle.count.proofs.Left.{left-says, left-not}
 use Rattle.count.proofs.Scan.{none-left, first-left-loop, all-found}
@@ -25,7 +25,7 @@ module _ (rows cols : ℕ) (g m c : List ℕ) (long : length g ≡ rows * cols) 
   is-left : leftAt g c p ≡ true
   is-left = elim (test (leftAt g c p)) [ inl e ↦ e | inr e ↦ absurd (first .here e) ]
 
-  pub left-first : SheetLoop rows cols g p (loopLength (rows * cols) (destOf rows cols g) p)
+  pub left-first : FirstSheetLoop rows cols g p (loopLength (rows * cols) (destOf rows cols g) p)
   left-first =
       let (land, zero) = left-says g c p is-left in
       first-left-loop rows cols g m c long s p (omega (arith, first .inside)) land zero (λ q l. left-not g c q (first .before q l))

@@ -14,16 +14,16 @@ use Rattle.sheet.specs.Shape.{SheetShape}
 use Rattle.sheet.specs.Sheet.{CodeOk, outletAt, countAt, passes, SheetLengths, SheetOnLoop, SheetNoLoop}
 use Rattle.sheet.specs.Totals.{landCells}
 use Rattle.sheet.proofs.Passes.{counts-no-loop, count-is-passing, outlets-sum}
-use Rattle.count.specs.Count.{CountPromise, CountEnd, Counted, Answered}
+use Rattle.count.specs.Count.{CountPromise, CountOutcome, Counted, Answered}
 
 -- a sheet of permitted size and codes, with buffers of the stated lengths, and what counting it may end in
 module _ (rows cols : ℕ) (grid counts : List ℕ) (shape : SheetShape rows cols) (lengths : SheetLengths rows cols grid counts)
-    (codes : (p : ℕ) → p < rows * cols → CodeOk grid p) (e : CountEnd) (kept : CountPromise rows cols grid counts e) where
+    (codes : (p : ℕ) → p < rows * cols → CodeOk grid p) (e : CountOutcome) (kept : CountPromise rows cols grid counts e) where
   answered : Answered rows cols grid e
   answered = unless-all-ok (unless-ok (unless-ok kept shape) lengths) codes
 
   loop-case : Answered rows cols grid e → (numberOf (e .said) ≡ 4) ↔ ((p : ℕ) × SheetOnLoop rows cols grid p)
-  loop-case (refused-with v first is) = (λ n. (v .place, first .here), λ o. ap (λ (x : CountEnd). numberOf (x .said)) is)
+  loop-case (refused-with v first is) = (λ n. (v .place, first .here), λ o. ap (λ (x : CountOutcome). numberOf (x .said)) is)
   loop-case (met-none none done) = (
     λ n. absurd (let z : _≡_ {A = ℕ} 0 4 = sym (ap numberOf (done .said-is)) ∙ n in omega arith),
     λ o. absurd (counts-no-loop rows cols grid (lengths .grid-long) (e .counts) (done .equation) (o .0) (o .1 .0) (o .1 .1)),

@@ -11,7 +11,7 @@ use Rattle.promise.specs.Reply.{Reply}
 use Rattle.promise.specs.Reply.Reply.{reply}
 use Rattle.promise.proofs.One.{unless-one, unless-one-met, unless-all-one, unless-some-one, one-value}
 use Rattle.sheet.proofs.Unique.{loop-one, counts-one}
-use Rattle.count.specs.Count.{CountPromise, CountEnd, Counted, countReply, ends}
+use Rattle.count.specs.Count.{CountPromise, CountOutcome, Counted, countReply, ends}
 use Rattle.count.specs.declared.CountReply.{CountReply}
 use Rattle.count.specs.declared.CountReply.the-variants.{Done, Shape, Length, Code, Loop}
 

@@ -12,16 +12,16 @@ use borrow.Author.Tests.{eqb-true, eq-eqb, ne-eqb}
 use Rattle.flow.specs.Net.{on, sum, given, loopLength, OnLoop, NoLoop, FirstLoop, Counts}
 use Rattle.flow.proofs.Count.{gives}
 use Rattle.flow.proofs.Scan.{Ahead, looked-start, scan-start, scan-take, scan-next, scan-end, scanned, scanned-counts, scanned-free, scanned-first}
-use Rattle.flow.proofs.Sum.{test, on-true, on-false, on-ne, sum-none, sum-ext}
+use Rattle.flow.proofs.Sum.{test, on-true, on-false, on-ne, sum-none, sum-ext, sum-some}
 use Rattle.flow.proofs.Wait.{Waits, waits-past}
-use Rattle.sheet.specs.Leaves.{Laid, LooksAround, one}
-use Rattle.sheet.specs.Sheet.{landAt, destOf, outletAt, countAt, SheetNoLoop, SheetLoop, SheetOnLoop}
-use Rattle.sheet.specs.declared.around.Around.the-variants.{Ready}
+use Rattle.sheet.specs.Leaves.{Laid}
+use Rattle.around.specs.Around.{LooksAround, one}
+use Rattle.sheet.specs.Sheet.{landAt, destOf, outletAt, countAt, SheetNoLoop, FirstSheetLoop, SheetOnLoop}
+use Rattle.around.specs.declared.Around.the-variants.{Ready}
 use Rattle.sheet.specs.Totals.{outlets}
 use Rattle.sheet.proofs.Dest.{dest-beyond, outlet-iff}
 use Rattle.sheet.proofs.Gather.{number-le}
 use Rattle.sheet.proofs.Places.{laid-area}
-use Rattle.sheet.proofs.Weigh.{sum-some}
 use Rattle.count.specs.Method.{weight, WeightsFit, Counting, Moved, found}
 use Rattle.count.proofs.Step.{gives-weight}
 
@@ -140,6 +140,6 @@ module _ (rows cols : ℕ) (g m : List ℕ) where
 
     -- the first land cell that is left is the smallest place on any loop
     pub first-left-loop : (p : ℕ) → p < rows * cols → landAt g p ≡ true → countAt c p ≡ 0 → ((q : ℕ) → q < p → landAt g q ≡ true → countAt c q ≡ 0 → ⊥)
-        → SheetLoop rows cols g p (loopLength (rows * cols) (destOf rows cols g) p)
+        → FirstSheetLoop rows cols g p (loopLength (rows * cols) (destOf rows cols g) p)
     first-left-loop p l e z first =
         scanned-first (rows * cols) (destOf rows cols g) (weight g m) (countAt c) out (s .right .looked) none-ahead (gives-weight rows cols g m) p l (weighs p e) z (λ q lq v y. first q lq (lands q v) y)

@@ -19,10 +19,11 @@ use Rattle.flow.proofs.Scan.{Ahead, EndsWeigh}
 use Rattle.flow.proofs.Sum.{same, on-true, on-false, on-eq, on-ne, sum-change}
 use Rattle.flow.proofs.Bound.{on-le}
 use Rattle.flow.proofs.Wait.{Waits, waits-on, waits-stop, waits-less}
-use Rattle.sheet.specs.Leaves.{Laid, Cell, SpotOf, LooksAround}
+use Rattle.sheet.specs.Leaves.{Laid, Cell, SpotOf}
+use Rattle.around.specs.Around.{LooksAround}
 use Rattle.sheet.specs.Sheet.{landAt, destOf, outletAt, countAt}
 use Rattle.sheet.specs.declared.step.Spot.{Spot}
-use Rattle.sheet.specs.declared.around.Around.the-variants.{Waiting, Ready}
+use Rattle.around.specs.declared.Around.the-variants.{Waiting, Ready}
 use Rattle.sheet.proofs.Dest.{from-land, to-land, dest-le, dest-beyond}
 use Rattle.count.specs.Method.{weight, RightSoFar, ScannedBut, ToCount, Moved, Ends, found, left}
 

@@ -22,33 +22,33 @@ countReply (Code place) = reply 3 (place ∷ [])
 countReply (Loop place len) = reply 4 (place ∷ len ∷ [])
 
 -- an outcome: what is said, and what the counts then hold
-pub record CountEnd : Type 0 where
+pub record CountOutcome : Type 0 where
   pub said : Reply
   pub counts : List ℕ
 
-abbrev pub ends : Reply → List ℕ → CountEnd
+abbrev pub ends : Reply → List ℕ → CountOutcome
 ends said counts = record { said = said; counts = counts }
 
 -- done: the counts satisfy equation 1 at every place; land, outlets and greatest count are returned
-pub record Counted (rows cols : ℕ) (grid : List ℕ) (e : CountEnd) : Type 0 where
+pub record Counted (rows cols : ℕ) (grid : List ℕ) (e : CountOutcome) : Type 0 where
   pub long : length (e .counts) ≡ rows * cols
   pub equation : SheetCounts rows cols grid (e .counts)
   pub said-is : e .said ≡ reply 0 (landCells rows cols grid ∷ outlets rows cols grid ∷ greatestCount rows cols (e .counts) ∷ [])
 
 -- of a sheet without bad codes: 4, done. After 4 the counts hold 0 throughout
-abbrev pub Answered : (rows cols : ℕ) (grid : List ℕ) → CountEnd → Type 0
+abbrev pub Answered : (rows cols : ℕ) (grid : List ℕ) → CountOutcome → Type 0
 Answered rows cols grid =
     UnlessSome (LoopIn rows cols grid) (λ v. ends (reply 4 (v .place ∷ v .len ∷ [])) (replicate (rows * cols) 0)) then
     Counted rows cols grid
 
 -- of a sheet whose shape and lengths fit: 3, 4, done
-abbrev pub CountCells : (rows cols : ℕ) (grid counts : List ℕ) → CountEnd → Type 0
+abbrev pub CountCells : (rows cols : ℕ) (grid counts : List ℕ) → CountOutcome → Type 0
 CountCells rows cols grid counts =
     UnlessAll (rows * cols) (CodeOk grid) (λ p. ends (reply 3 (p ∷ [])) counts) then
     Answered rows cols grid
 
 -- counting: 1, 2, 3, 4, done. After 1, 2 and 3 the counts are as they were lent
-abbrev pub CountPromise : (rows cols : ℕ) (grid counts : List ℕ) → CountEnd → Type 0
+abbrev pub CountPromise : (rows cols : ℕ) (grid counts : List ℕ) → CountOutcome → Type 0
 CountPromise rows cols grid counts =
     Unless (SheetShape rows cols) (ends (reply 1 []) counts) then
     Unless (SheetLengths rows cols grid counts) (ends (reply 2 []) counts) then

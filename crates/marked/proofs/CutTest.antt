@@ -14,11 +14,11 @@ use Rattle.flow.proofs.Count.{through-counts}
 use Rattle.flow.proofs.Test.{allb, allb-says, countsb, countsb-iff, noLoopb, noLoopb-iff}
 use Rattle.sheet.specs.Sheet.{unit, countAt}
 use Rattle.sheet.proofs.Dest.{dest-beyond}
-use Rattle.mosaic.specs.Layout.{sheetRows, sheetCols, heightOf, widthOf, cellsIn, tileAt, bordersBefore, allBorders, borderTile, borderIn, placeIn, Cut, Fits}
+use Rattle.mosaic.specs.Layout.{sheetRows, sheetCols, heightOf, widthOf, cellsIn, sheetPlace, bordersBefore, allBorders, borderTile, numberInTile, placeIn, Cut, Fits}
 use Rattle.mosaic.specs.Join.{own, comesAt, TilesFree, Tells}
 use Rattle.mosaic.proofs.Borders.{border-tile, border-in}
 use Rattle.mosaic.proofs.Totals.{feeds-out}
-use Rattle.marked.specs.Cut.{listed, tileOf, tileTo, tileCount, countOf, trueWay, wayOf, codeOf, join, Tiled, Joined, JoinLoop}
+use Rattle.marked.specs.Cut.{listed, tileCodes, tileTo, tileCount, countOf, trueWay, wayOf, codeOf, join, Tiled, Joined, JoinLoop}
 use Rattle.marked.proofs.NetTest.{both, firstb, first-says}
 
 -- ---- the list of a function's values
@@ -77,8 +77,8 @@ module _ (I J : ℕ) (hs ws : ℕ → ℕ) (sheet : List ℕ) where
   unfoldable pub finishedb : (totals counts : List ℕ) → ℕ → Bool
   finishedb totals counts t =
       countsb (cellsIn J hs ws t) (tileTo I J hs ws sheet t)
-      (λ x. unit (tileOf I J hs ws sheet t) x + comesAt I J hs ws (wayOf I J hs ws sheet) (codeOf I J hs ws sheet) (countAt totals) t x)
-      (λ x. countAt counts (tileAt I J hs ws t x))
+      (λ x. unit (tileCodes I J hs ws sheet t) x + comesAt I J hs ws (wayOf I J hs ws sheet) (codeOf I J hs ws sheet) (countAt totals) t x)
+      (λ x. countAt counts (sheetPlace I J hs ws t x))
 
   unfoldable pub joinedb : (totals counts : List ℕ) → Bool
   joinedb totals counts =
@@ -93,23 +93,23 @@ module _ (I J : ℕ) (hs ws : ℕ → ℕ) (sheet : List ℕ) where
   joinLoopb tile border exits =
       tiledb
       && (eqb (borderTile I J hs ws (bordersBefore J hs ws tile + border)) tile
-      && (eqb (borderIn I J hs ws (bordersBefore J hs ws tile + border)) border
+      && (eqb (numberInTile I J hs ws (bordersBefore J hs ws tile + border)) border
       && firstb (allBorders I J hs ws) (join I J hs ws sheet) (bordersBefore J hs ws tile + border) exits))
 
   -- ---- what they mean
 
   module _ (long : length sheet ≡ sheetRows I hs * sheetCols J ws) where
-    is-cut : Cut I J hs ws sheet (tileOf I J hs ws sheet)
-    unfolding tileOf
+    is-cut : Cut I J hs ws sheet (tileCodes I J hs ws sheet)
+    unfolding tileCodes
     is-cut = record { sheet-long = long; tile-long = λ t l. listed-long _ _; codes = λ t x lt lx. listed-at _ _ 255 x lx }
 
     tile-out : (t : ℕ) → t < I * J → (x : ℕ) → cellsIn J hs ws t ≤ x → cellsIn J hs ws t ≤ tileTo I J hs ws sheet t x
-    tile-out t l = dest-beyond (heightOf J hs t) (widthOf J ws t) (tileOf I J hs ws sheet t) (is-cut .tile-long t l)
+    tile-out t l = dest-beyond (heightOf J hs t) (widthOf J ws t) (tileCodes I J hs ws sheet t) (is-cut .tile-long t l)
 
     join-out : (g : ℕ) → allBorders I J hs ws ≤ g → allBorders I J hs ws ≤ join I J hs ws sheet g
     join-out = feeds-out I J hs ws (wayOf I J hs ws sheet) (codeOf I J hs ws sheet)
 
-    is-told : Tells I J hs ws (tileOf I J hs ws sheet) (tileCount I J hs ws sheet) (countOf I J hs ws sheet) (wayOf I J hs ws sheet) (codeOf I J hs ws sheet)
+    is-told : Tells I J hs ws (tileCodes I J hs ws sheet) (tileCount I J hs ws sheet) (countOf I J hs ws sheet) (wayOf I J hs ws sheet) (codeOf I J hs ws sheet)
     unfolding countOf wayOf codeOf
     is-told = record {
       count-is = λ t b lt lb. ap₂ (λ (u a : ℕ). tileCount I J hs ws sheet u (placeIn J hs ws u a)) (border-tile I J hs ws t b lt lb) (border-in I J hs ws t b lt lb);
@@ -121,13 +121,13 @@ module _ (I J : ℕ) (hs ws : ℕ → ℕ) (sheet : List ℕ) where
     unfolding tiledb tileCount
     tiled-says e =
         let (a, b) = both (fitsb I J hs ws) _ e in
-        let free : TilesFree I J hs ws (tileOf I J hs ws sheet) =
+        let free : TilesFree I J hs ws (tileCodes I J hs ws sheet) =
         λ t l. noLoopb-iff (cellsIn J hs ws t) (tileTo I J hs ws sheet t) (tile-out t l) .0 (allb-says (I * J) _ b t l) in
         record {
           fits = fits-says I J hs ws a;
           cut = is-cut;
           free = free;
-          alone = λ t l. through-counts (cellsIn J hs ws t) (tileTo I J hs ws sheet t) (tile-out t l) (free t l) (unit (tileOf I J hs ws sheet t));
+          alone = λ t l. through-counts (cellsIn J hs ws t) (tileTo I J hs ws sheet t) (tile-out t l) (free t l) (unit (tileCodes I J hs ws sheet t));
           tells = is-told;
         }
 
@@ -154,7 +154,7 @@ module _ (I J : ℕ) (hs ws : ℕ → ℕ) (sheet : List ℕ) where
         let g : ℕ = bordersBefore J hs ws tile + border in
         let (a, x1) = both tiledb _ e in
         let (b, x2) = both (eqb (borderTile I J hs ws g) tile) _ x1 in
-        let (c, d) = both (eqb (borderIn I J hs ws g) border) _ x2 in
+        let (c, d) = both (eqb (numberInTile I J hs ws g) border) _ x2 in
         record {
           tiled = tiled-says a;
           exit = g;

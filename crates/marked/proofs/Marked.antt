@@ -10,14 +10,14 @@ use Rattle.sheet.specs.Sheet.{landAt, stepFrom, destOf, outletAt}
 use Rattle.sheet.specs.Totals.{greatestBelow}
 use Rattle.tile.specs.Border.{edgeAt, onBorder, borderCells, borderNumber, nth, borderPlace}
 use Rattle.tile.specs.Way.{crosses, lastCell, wayAt}
-use Rattle.mosaic.specs.Layout.{tileAt, piece, bordersIn, borderTile, borderIn}
+use Rattle.mosaic.specs.Layout.{sheetPlace, piece, bordersIn, borderTile, numberInTile}
 use Rattle.mosaic.specs.Join.{firstBelow, isLand, exitAt, onto, leadsTo, feeds, own, comesIn}
-use Rattle.marked.specs.Cut.{listed, tileOf, tileCount, countOf, wayOf, codeOf}
+use Rattle.marked.specs.Cut.{listed, tileCodes, tileCount, countOf, wayOf, codeOf}
 use Rattle.marked.specs.Table.{table, All}
 use Rattle.marked.proofs.NetTest.{firstb}
 use Rattle.marked.proofs.CutTest.{sidesb, fitsb, tiledb, finishedb, joinedb, joinLoopb}
 use Rattle.marked.proofs.Test.{codesb, shapeb, loopb, badb, cutb, answerb, saysb, allSayb, all-say}
 
 pub marked : All table
-unfolding sum steps given downIn downb loopLength last lastIn allb countsb noLoopb onLoopb level through lineOf isArrow isAbsent isCode stepOf landAt stepFrom destOf outletAt greatestBelow edgeAt onBorder borderCells borderNumber nth borderPlace crosses lastCell wayAt tileAt piece bordersIn borderTile borderIn firstBelow isLand exitAt onto leadsTo feeds own comesIn listed tileOf tileCount countOf wayOf codeOf firstb sidesb fitsb tiledb finishedb joinedb joinLoopb codesb shapeb loopb badb cutb answerb saysb allSayb
+unfolding sum steps given downIn downb loopLength last lastIn allb countsb noLoopb onLoopb level through lineOf isArrow isAbsent isCode stepOf landAt stepFrom destOf outletAt greatestBelow edgeAt onBorder borderCells borderNumber nth borderPlace crosses lastCell wayAt sheetPlace piece bordersIn borderTile numberInTile firstBelow isLand exitAt onto leadsTo feeds own comesIn listed tileCodes tileCount countOf wayOf codeOf firstb sidesb fitsb tiledb finishedb joinedb joinLoopb codesb shapeb loopb badb cutb answerb saysb allSayb
 marked = all-say table refl

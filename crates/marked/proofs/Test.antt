@@ -11,7 +11,7 @@ use Rattle.promise.specs.Links.{FirstNot}
 use Rattle.flow.proofs.Test.{allb, allb-says, countsb, countsb-iff, noLoopb, noLoopb-iff}
 use Rattle.sheet.specs.Compass.{isCode}
 use Rattle.sheet.specs.Shape.{SheetShape}
-use Rattle.sheet.specs.Sheet.{codeAt, CodeOk, destOf, unit, countAt, SheetLoop}
+use Rattle.sheet.specs.Sheet.{codeAt, CodeOk, destOf, unit, countAt, FirstSheetLoop}
 use Rattle.sheet.specs.Totals.{landCells, outlets, greatestCount}
 use Rattle.sheet.proofs.Dest.{dest-beyond}
 use Rattle.mosaic.specs.Layout.{sheetRows, sheetCols}
@@ -82,7 +82,7 @@ bad-says n g p e =
     let (b, y) = both (not (isCode (codeAt g p))) _ x in
     record { inside = ltb-true p n a; here = λ h. true≢false (sym h ∙ not-true _ b); before = codes-say p g y }
 
-loop-says : (rows cols : ℕ) (g : List ℕ) (p len : ℕ) → length g ≡ rows * cols → loopb rows cols g p len ≡ true → SheetLoop rows cols g p len
+loop-says : (rows cols : ℕ) (g : List ℕ) (p len : ℕ) → length g ≡ rows * cols → loopb rows cols g p len ≡ true → FirstSheetLoop rows cols g p len
 unfolding loopb
 loop-says rows cols g p len long e = first-says (rows * cols) (destOf rows cols g) (dest-beyond rows cols g long) p len e
 

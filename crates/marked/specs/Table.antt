@@ -7,7 +7,7 @@ use Prim.Native.Nat.{ℕ, _*_, _<_}
 use lib.ListN.{length, getD, set}
 use Rattle.promise.specs.Links.{FirstNot}
 use Rattle.sheet.specs.Shape.{SheetShape}
-use Rattle.sheet.specs.Sheet.{CodeOk, SheetCounts, SheetNoLoop, SheetLoop}
+use Rattle.sheet.specs.Sheet.{CodeOk, SheetCounts, SheetNoLoop, FirstSheetLoop}
 use Rattle.sheet.specs.Totals.{landCells, outlets, greatestCount}
 use Rattle.mosaic.specs.Layout.{sheetRows, sheetCols}
 use Rattle.marked.specs.Cut.{Joined, JoinLoop}
@@ -88,11 +88,11 @@ pub record Counted (r : Row) (counts : List ℕ) (land out greatest : ℕ) : Typ
 
 pub record Loops (r : Row) (place len : ℕ) : Type 0 where
   pub codes : CodesOk r
-  pub first : SheetLoop (r .rows) (r .cols) (r .grid) place len
+  pub first : FirstSheetLoop (r .rows) (r .cols) (r .grid) place len
 
 pub record BadThoughLoop (r : Row) (place loop-place len : ℕ) : Type 0 where
   pub bad : FirstNot (r .rows * r .cols) (CodeOk (r .grid)) place
-  pub first : SheetLoop (r .rows) (r .cols) (r .grid) loop-place len
+  pub first : FirstSheetLoop (r .rows) (r .cols) (r .grid) loop-place len
 
 -- the height of each tile row, or the width of each tile column
 abbrev pub sides : List ℕ → ℕ → ℕ

@@ -12,12 +12,12 @@ use Rattle.promise.specs.Reply.{Reply, numberOf}
 use Rattle.promise.specs.Reply.Reply.{reply}
 use Rattle.flow.proofs.Loop.{first-loop-free}
 use Rattle.sheet.specs.Leaves.{Laid}
-use Rattle.sheet.specs.Sheet.{SheetCounts, SheetNoLoop, SheetLoop}
+use Rattle.sheet.specs.Sheet.{SheetCounts, SheetNoLoop, FirstSheetLoop}
 use Rattle.sheet.proofs.Change.{changed-long}
 use Rattle.sheet.proofs.Passes.{counts-no-loop}
 use Rattle.checking.specs.Check.{CheckPromise}
 use Rattle.checking.proofs.Demands.{Right, check-done-iff}
-use Rattle.mend.specs.Mend.{MendPromise, MendCell, Changed, MendEnd, ends}
+use Rattle.mend.specs.Mend.{MendPromise, MendCell, MendChange, MendOutcome, ends}
 use Rattle.mend.specs.Method.{Settled}
 
 module _ (rows cols : ℕ) (g c : List ℕ) (t x : ℕ) where
@@ -34,7 +34,7 @@ module _ (rows cols : ℕ) (g c : List ℕ) (t x : ℕ) where
     checked = check-done-iff rows cols g c (reply 0 []) promise .0 refl
 
     -- what it passes is right, and mending goes on
-    pub goes-on : {e : MendEnd} → MendCell rows cols g c t x e → MendPromise rows cols g c t x e
+    pub goes-on : {e : MendOutcome} → MendCell rows cols g c t x e → MendPromise rows cols g c t x e
     goes-on rest = met (checked .shape) (met (checked .lengths) (met-all (checked .codes) (met-all (checked .equation) rest)))
 
     pub checked-laid : Laid rows cols g c
@@ -49,7 +49,7 @@ module _ (rows cols : ℕ) (g c : List ℕ) (t x : ℕ) where
     checked-counts = checked .equation
 
   -- the code is already there: nothing is to be done
-  pub answers-same : Laid rows cols g c → SheetCounts rows cols g c → getD g t 0 ≡ x → Changed rows cols g c t x (ends (reply 0 []) g c)
+  pub answers-same : Laid rows cols g c → SheetCounts rows cols g c → getD g t 0 ≡ x → MendChange rows cols g c t x (ends (reply 0 []) g c)
   answers-same laid eq there =
       let stays : set g t x ≡ g = ap (λ (y : ℕ). set g t y) (sym there) ∙ set-getD g t 0 in
       met-none (λ v first. first-loop-free (counts-no-loop rows cols g (laid .grid-long) c eq) (rw stays at first)) record {
@@ -60,7 +60,7 @@ module _ (rows cols : ℕ) (g c : List ℕ) (t x : ℕ) where
       }
 
   -- the new code would close a loop
-  pub answers-loop : {h : List ℕ} {p len : ℕ} → SheetLoop rows cols (set g t x) p len → h ≡ g → Changed rows cols g c t x (ends (reply 4 (p ∷ len ∷ [])) h c)
+  pub answers-loop : {h : List ℕ} {p len : ℕ} → FirstSheetLoop rows cols (set g t x) p len → h ≡ g → MendChange rows cols g c t x (ends (reply 4 (p ∷ len ∷ [])) h c)
   answers-loop {h} {p} {len} s e = refused-with (record { place = p; len = len }) s (ap (λ (y : List ℕ). ends (reply 4 (p ∷ len ∷ [])) y c) e)
 
   -- it closes none: the look ahead left the grid h as it was, taking out left h' and d, putting in h'' and d'
@@ -83,7 +83,7 @@ module _ (rows cols : ℕ) (g c : List ℕ) (t x : ℕ) where
       (lt, (rw (out, set-set g t 255 255, ← e) (s .equation), rw then-in free)),
     )
 
-    pub answers-mended : {h'' d' : List ℕ} → h'' ≡ set h' t x → Settled rows cols (set h' t x) d' → Changed rows cols g c t x (ends (reply 0 []) h'' d')
+    pub answers-mended : {h'' d' : List ℕ} → h'' ≡ set h' t x → Settled rows cols (set h' t x) d' → MendChange rows cols g c t x (ends (reply 0 []) h'' d')
     answers-mended e'' s = met-none (λ v first. first-loop-free free first) record {
       stored = e'' ∙ then-in;
       long = s .long;

@@ -25,7 +25,7 @@ use Rattle.sheet.proofs.Change.{changed-alike, changed-unit, changed-code}
 use Rattle.sheet.proofs.Dest.{dest-beyond}
 use Rattle.sheet.proofs.Passes.{counts-no-loop}
 use Rattle.checking.proofs.Demands.{Right}
-use Rattle.mend.specs.Mend.{MendPromise, MendEnd, Changed, Mended, changed, ends}
+use Rattle.mend.specs.Mend.{MendPromise, MendOutcome, MendChange, Mended, changed, ends}
 use Rattle.sheet.proofs.Unique.{counts-one}
 use Rattle.mend.proofs.One.{mend-one}
 
@@ -40,16 +40,16 @@ module _ (rows cols : ℕ) (grid counts : List ℕ) (place code : ℕ) where
   mendable-long m = simp length-set (m .right .lengths .grid-long)
 
   -- the chain put together again
-  promised : {e : MendEnd} → Mendable rows cols grid counts place code → Changed rows cols grid counts place code e → MendPromise rows cols grid counts place code e
+  promised : {e : MendOutcome} → Mendable rows cols grid counts place code → MendChange rows cols grid counts place code e → MendPromise rows cols grid counts place code e
   promised m rest = met (m .right .shape) (met (m .right .lengths) (met-all (m .right .codes) (met-all (m .right .equation) (met (m .inside) (met (m .code-ok) rest)))))
 
-  module _ (e : MendEnd) (promise : MendPromise rows cols grid counts place code e) where
-    changes : Mendable rows cols grid counts place code → Changed rows cols grid counts place code e
+  module _ (e : MendOutcome) (promise : MendPromise rows cols grid counts place code e) where
+    changes : Mendable rows cols grid counts place code → MendChange rows cols grid counts place code e
     changes m =
         unless-ok (unless-ok (unless-all-ok (unless-all-ok (unless-ok (unless-ok promise (m .right .shape)) (m .right .lengths)) (m .right .codes)) (m .right .equation)) (m .inside)) (m .code-ok)
 
-    not-said : numberOf (e .said) ≡ 0 → {n : ℕ} → (n ≡ 0 → ⊥) → {f : MendEnd} → numberOf (f .said) ≡ n → e ≡ f → ⊥
-    not-said z h k d = h (sym k ∙ ap (λ (y : MendEnd). numberOf (y .said)) (sym d) ∙ z)
+    not-said : numberOf (e .said) ≡ 0 → {n : ℕ} → (n ≡ 0 → ⊥) → {f : MendOutcome} → numberOf (f .said) ≡ n → e ≡ f → ⊥
+    not-said z h k d = h (sym k ∙ ap (λ (y : MendOutcome). numberOf (y .said)) (sym d) ∙ z)
 
     passed : numberOf (e .said) ≡ 0 → Mendable rows cols grid counts place code × Mended rows cols grid place code e
     passed z =
@@ -134,7 +134,7 @@ module _ (rows cols : ℕ) (grid counts : List ℕ) (place code : ℕ) where
         | met-none n s ↦ absurd (let k : numberOf (e .said) ≡ 0 = ap numberOf (s .said-is) in omega arith)
       ],
       λ (p, on). elim (changes m) [
-        | refused-with v a d ↦ ap (λ (y : MendEnd). numberOf (y .said)) d
+        | refused-with v a d ↦ ap (λ (y : MendOutcome). numberOf (y .said)) d
         | met-none n s ↦ absurd (elim (loop-or-free (rows * cols) (destOf rows cols (changed grid place code)) (dest-beyond rows cols (changed grid place code) (mendable-long m))) [
           | inl free ↦ free p (on .0) (on .1)
           | inr first ↦ n (record { place = first .0; len = _ }) (first .1)
@@ -147,7 +147,7 @@ module _ (rows cols : ℕ) (grid counts : List ℕ) (place code : ℕ) where
     refused-as-lent h = as-lent promise
       where
         unchanged : {said : Reply} → e ≡ ends said grid counts → (e .grid ≡ grid) × (e .counts ≡ counts)
-        unchanged d = (ap (λ (y : MendEnd). y .grid) d, ap (λ (y : MendEnd). y .counts) d)
+        unchanged d = (ap (λ (y : MendOutcome). y .grid) d, ap (λ (y : MendOutcome). y .counts) d)
 
         as-lent : MendPromise rows cols grid counts place code e → (e .grid ≡ grid) × (e .counts ≡ counts)
         as-lent (refused n d) = unchanged d

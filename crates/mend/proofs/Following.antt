@@ -13,7 +13,7 @@ use Rattle.flow.proofs.Close.{closes-first}
 use Rattle.flow.proofs.Follow.{follow-ends, follow-out}
 use Rattle.flow.proofs.Sum.{same}
 use Rattle.flow.proofs.Walk.{steps-suc, inside-at}
-use Rattle.sheet.specs.Sheet.{destOf, unit, SheetNoLoop, SheetLoop}
+use Rattle.sheet.specs.Sheet.{destOf, unit, SheetNoLoop, FirstSheetLoop}
 use Rattle.sheet.proofs.Change.{changed-long, sheet-without}
 use Rattle.sheet.proofs.Dest.{dest-beyond}
 use Rattle.mend.specs.Method.{OnWay, Smaller}
@@ -61,7 +61,7 @@ module _ (rows cols : ℕ) (g : List ℕ) (start : ℕ) (long : length g ≡ row
       (inside-at (rows * cols) (destOf rows cols g) out start (let h : further ≤ suc further = omega arith in h) (omega (arith, s .here)))
 
   -- it is back: it has gone round the first loop
-  pub way-back : p ≡ start → SheetLoop rows cols g least (further + 1)
+  pub way-back : p ≡ start → FirstSheetLoop rows cols g least (further + 1)
   way-back e =
       rw (add-one further) (closes-first (rows * cols) start (destOf rows cols g) (unit g) (destOf rows cols (set g start 255)) (unit (set g start 255)) out out' lt (sheet-without rows cols g start lt long) free further
       (sym (s .here) ∙ e) (s .never) least (s .met .0) (s .met .1) (s .met .2) (s .under))

@@ -27,12 +27,12 @@ mendReply Place = reply 6 []
 mendReply NewCode = reply 7 []
 
 -- an outcome: what is said, and what grid and counts then hold
-pub record MendEnd : Type 0 where
+pub record MendOutcome : Type 0 where
   pub said : Reply
   pub grid : List ℕ
   pub counts : List ℕ
 
-abbrev pub ends : Reply → List ℕ → List ℕ → MendEnd
+abbrev pub ends : Reply → List ℕ → List ℕ → MendOutcome
 ends said grid counts = record { said = said; grid = grid; counts = counts }
 
 -- the changed grid: the new code at the changed cell's place
@@ -40,27 +40,27 @@ abbrev pub changed : List ℕ → ℕ → ℕ → List ℕ
 changed grid place code = set grid place code
 
 -- done: the new code is stored, and the counts satisfy equation 1 at every place of the changed grid
-pub record Mended (rows cols : ℕ) (grid : List ℕ) (place code : ℕ) (e : MendEnd) : Type 0 where
+pub record Mended (rows cols : ℕ) (grid : List ℕ) (place code : ℕ) (e : MendOutcome) : Type 0 where
   pub stored : e .grid ≡ changed grid place code
   pub long : length (e .counts) ≡ rows * cols
   pub equation : SheetCounts rows cols (changed grid place code) (e .counts)
   pub said-is : e .said ≡ reply 0 []
 
 -- of a sheet that is right, a place of it and a code that is not bad: 4, done
-abbrev pub Changed : (rows cols : ℕ) (grid counts : List ℕ) (place code : ℕ) → MendEnd → Type 0
-Changed rows cols grid counts place code =
+abbrev pub MendChange : (rows cols : ℕ) (grid counts : List ℕ) (place code : ℕ) → MendOutcome → Type 0
+MendChange rows cols grid counts place code =
     UnlessSome (LoopIn rows cols (changed grid place code)) (λ v. ends (reply 4 (v .place ∷ v .len ∷ [])) grid counts) then
     Mended rows cols grid place code
 
 -- of a sheet that is right: 6, 7, 4, done
-abbrev pub MendCell : (rows cols : ℕ) (grid counts : List ℕ) (place code : ℕ) → MendEnd → Type 0
+abbrev pub MendCell : (rows cols : ℕ) (grid counts : List ℕ) (place code : ℕ) → MendOutcome → Type 0
 MendCell rows cols grid counts place code =
     Unless (place < rows * cols) (ends (reply 6 []) grid counts) then
     Unless (isCode code ≡ true) (ends (reply 7 []) grid counts) then
-    Changed rows cols grid counts place code
+    MendChange rows cols grid counts place code
 
 -- mending: 1, 2, 3, 5, 6, 7, 4, done. After every refusal grid and counts are as they were lent
-abbrev pub MendPromise : (rows cols : ℕ) (grid counts : List ℕ) (place code : ℕ) → MendEnd → Type 0
+abbrev pub MendPromise : (rows cols : ℕ) (grid counts : List ℕ) (place code : ℕ) → MendOutcome → Type 0
 MendPromise rows cols grid counts place code =
     Unless (SheetShape rows cols) (ends (reply 1 []) grid counts) then
     Unless (SheetLengths rows cols grid counts) (ends (reply 2 []) grid counts) then

@@ -7,7 +7,7 @@ use Prim.Native.Nat.{ℕ, suc, _*_, _<_, _≤_}
 use lib.ListN.{length}
 use Rattle.flow.specs.Net.{steps}
 use Rattle.flow.proofs.Mend.{Off}
-use Rattle.sheet.specs.Sheet.{destOf, unit, countAt, SheetCounts, SheetNoLoop, SheetLoop}
+use Rattle.sheet.specs.Sheet.{destOf, unit, countAt, SheetCounts, SheetNoLoop, FirstSheetLoop}
 use Rattle.mend.specs.declared.method.Followed.{Followed}
 use Rattle.mend.specs.declared.method.Followed.the-variants.{Out, Round}
 
@@ -20,7 +20,7 @@ pub record Smaller (a b r : ℕ) : Type 0 where
 
 -- it comes back, and has gone round the first loop; or it does not, and there is no loop
 abbrev pub Follows : ℕ → ℕ → List ℕ → Followed → Type 0
-Follows rows cols grid (Round first len) = SheetLoop rows cols grid first len
+Follows rows cols grid (Round first len) = FirstSheetLoop rows cols grid first len
 Follows rows cols grid Out = SheetNoLoop rows cols grid
 
 -- half-way: the water of `start` has come to p in one step and `further` more, not by way of `start`; `least` is the smallest place before p

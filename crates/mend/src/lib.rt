@@ -5,7 +5,7 @@ mod method;
 ghost use Prim.Native.Nat.{_*_, _<_};
 ghost use Rattle.sheet.specs.Leaves.{Laid};
 ghost use Rattle.sheet.specs.Sheet.{SheetCounts};
-ghost use Rattle.mend.specs.Mend.{MendPromise, MendCell, Changed, mendReply, ends};
+ghost use Rattle.mend.specs.Mend.{MendPromise, MendCell, MendChange, mendReply, ends};
 use crate::method::Followed;
 use crate::method::look_ahead;
 use crate::method::put_in;
@@ -81,7 +81,7 @@ fn change(
     requires { ⌜ Laid rows cols (now grid) (now counts) ⌝ }
     requires { ⌜ SheetCounts rows cols (now grid) (now counts) ⌝ }
     requires { ⌜ place < rows * cols ⌝ }
-    ensures { λ r. ⌜ Changed rows cols (now (grid .entry)) (now (counts .entry)) place code (ends (mendReply r) (now (grid .exit)) (now (counts .exit))) ⌝ }
+    ensures { λ r. ⌜ MendChange rows cols (now (grid .entry)) (now (counts .entry)) place code (ends (mendReply r) (now (grid .exit)) (now (counts .exit))) ⌝ }
 {
     if grid[place] == code {
         return MendReply::Done;

@@ -5,7 +5,7 @@ ghost use lib.ListN.{set};
 ghost use Rattle.sheet.specs.Leaves.{Laid};
 ghost use Rattle.sheet.specs.Sheet.{SheetCounts, SheetNoLoop};
 ghost use Rattle.mend.specs.Method.{Follows, Owing, Settled, Smaller};
-use sheet::around::givers_sum;
+use around::givers_sum;
 use sheet::compass::is_arrow;
 use sheet::step::dest;
 

@@ -7,7 +7,7 @@ use native.Mathlib.Omega.{arith}
 use Rattle.sheet.specs.Compass.{isArrow, stepOf}
 use Rattle.sheet.specs.Sheet.{stepFrom}
 use Rattle.sheet.proofs.Places.{row-of, col-of}
-use Rattle.mosaic.specs.Layout.{sheetRows, sheetCols, heightOf, widthOf, spotAt, tileAt, bordersIn, bordersBefore, allBorders, placeIn, borderOf}
+use Rattle.mosaic.specs.Layout.{sheetRows, sheetCols, heightOf, widthOf, spotAt, sheetPlace, bordersIn, bordersBefore, allBorders, placeIn, numberInMosaic}
 use Rattle.mosaic.specs.Join.{stepsOnto, onto}
 use Rattle.mosaic.proofs.Grid.{spot-place, spot-at}
 use Rattle.mosaic.proofs.Steps.{down, right}
@@ -21,17 +21,17 @@ module _ (I J : ℕ) (hs ws code : ℕ → ℕ) (t b r c a : ℕ) (lt : t < I * 
   stepped : stepsOnto I J hs ws code (bordersBefore J hs ws t + b) ≡ stepFrom (sheetRows I hs) (sheetCols J ws) (stepOf a) (spotAt J hs ws t r c)
   stepped =
       ap₂ (λ (x p : ℕ). stepFrom (sheetRows I hs) (sheetCols J ws) (stepOf x) p) says
-      (border-at I J hs ws t b lt lb ∙ ap (tileAt I J hs ws t) (sym stands) ∙ spot-at I J hs ws t r c lt lr lc)
+      (border-at I J hs ws t b lt lb ∙ ap (sheetPlace I J hs ws t) (sym stands) ∙ spot-at I J hs ws t r c lt lr lc)
 
   -- over its tile's edge, to row r' and column c' of tile s
   pub onto-neighbour : (s r' c' : ℕ) → s < I * J → (t ≡ s → ⊥) → Moved hs I (t / J) r (down a) (s / J) r' → Moved ws J (t % J) c (right a) (s % J) c'
-      → onto I J hs ws code (bordersBefore J hs ws t + b) ≡ borderOf J hs ws s (r' * widthOf J ws s + c')
+      → onto I J hs ws code (bordersBefore J hs ws t + b) ≡ numberInMosaic J hs ws s (r' * widthOf J ws s + c')
   onto-neighbour s r' c' ls d m n =
       let ly = spot-place I J hs ws s r' c' ls (m .number-in) (n .number-in) in
       let ry : (r' * widthOf J ws s + c') / widthOf J ws s ≡ r' = row-of (widthOf J ws s) r' c' (n .number-in) in
       let cy : (r' * widthOf J ws s + c') % widthOf J ws s ≡ c' = col-of (widthOf J ws s) r' c' (n .number-in) in
       let edge = beside I J hs ws a arrow t s r c (r' * widthOf J ws s + c') lt ls lr lc ly d (omega (arith, m .number-is)) (omega (arith, n .number-is)) in
-      onto-is I J hs ws code (bordersBefore J hs ws t + b) (borderOf J hs ws s (r' * widthOf J ws s + c')) (of-below I J hs ws s _ ls ly edge)
+      onto-is I J hs ws code (bordersBefore J hs ws t + b) (numberInMosaic J hs ws s (r' * widthOf J ws s + c')) (of-below I J hs ws s _ ls ly edge)
       (of-at I J hs ws s (r' * widthOf J ws s + c') ls ly edge ∙ spot-at I J hs ws s r' c' ls (m .number-in) (n .number-in)
       ∙ sym (spot-step I J hs ws a arrow t r c lt lr lc s r' c' m n) ∙ sym stepped)
 

@@ -18,7 +18,7 @@ use Rattle.flow.proofs.Mosaic.{total-count, came-count, mosaic}
 use Rattle.sheet.specs.Sheet.{landAt, destOf, unit, SheetNoLoop}
 use Rattle.sheet.proofs.Dest.{dest-beyond}
 use Rattle.tile.specs.Border.{onBorder}
-use Rattle.mosaic.specs.Layout.{sheetRows, sheetCols, heightOf, widthOf, cellsIn, tileAt, allBorders, borderTile, borderIn, placeIn, borderAt, Cut, Fits, borderOf}
+use Rattle.mosaic.specs.Layout.{sheetRows, sheetCols, heightOf, widthOf, cellsIn, sheetPlace, allBorders, borderTile, numberInTile, placeIn, borderSheetPlace, Cut, Fits, numberInMosaic}
 use Rattle.mosaic.specs.Join.{exitAt, leadsTo, feeds, own, Totals, comesIn, comesAt, TilesFree, Tells}
 use Rattle.mosaic.proofs.Pieces.{sum-most}
 use Rattle.mosaic.proofs.Grid.{tile-below}
@@ -59,11 +59,11 @@ module _ (I J : ℕ) (hs ws : ℕ → ℕ) (fits : Fits I J hs ws) (sheet : List
   M = allBorders I J hs ws
 
   abbrev at : ℕ → ℕ
-  at = borderAt I J hs ws
+  at = borderSheetPlace I J hs ws
 
   -- the place of border cell g in its tile
   abbrev cell : ℕ → ℕ
-  cell g = placeIn J hs ws (borderTile I J hs ws g) (borderIn I J hs ws g)
+  cell g = placeIn J hs ws (borderTile I J hs ws g) (numberInTile I J hs ws g)
 
   free : TilesFree I J hs ws tiles
   free = tile-free I J hs ws fits sheet tiles cut sheet-free
@@ -71,7 +71,7 @@ module _ (I J : ℕ) (hs ws : ℕ → ℕ) (fits : Fits I J hs ws) (sheet : List
   out : (p : ℕ) → N ≤ p → N ≤ to p
   out = dest-beyond (sheetRows I hs) (sheetCols J ws) sheet (cut .sheet-long)
 
-  same-unit : (t x : ℕ) → t < I * J → x < cellsIn J hs ws t → unit (tiles t) x ≡ unit sheet (tileAt I J hs ws t x)
+  same-unit : (t x : ℕ) → t < I * J → x < cellsIn J hs ws t → unit (tiles t) x ≡ unit sheet (sheetPlace I J hs ws t x)
   same-unit t x lt lx = ap (λ b. on b 1) (same-land I J hs ws sheet tiles cut t x lt lx)
 
   joined : Counts M (feeds I J hs ws way code) (λ g. on (C (at g)) (counts (borderTile I J hs ws g) (cell g))) T
@@ -81,7 +81,7 @@ module _ (I J : ℕ) (hs ws : ℕ → ℕ) (fits : Fits I J hs ws) (sheet : List
   -- an exit's total is the sheet's count there
   pub tiled-total : (g : ℕ) → g < M → exitAt I J hs ws way g ≡ true → T g ≡ c (at g)
   tiled-total g l e =
-      total-count N to C (I * J) (cellsIn J hs ws) ton (tileAt I J hs ws) M (feeds I J hs ws way code) (borderTile I J hs ws) cell
+      total-count N to C (I * J) (cellsIn J hs ws) ton (sheetPlace I J hs ws) M (feeds I J hs ws way code) (borderTile I J hs ws) cell
       (whole I J hs ws fits sheet tiles cut counts count way code free tells) sheet-free (unit sheet) c sheet-counts (λ t. unit (tiles t)) counts same-unit tile-counts T joined g l
       (sym (exit-is I J hs ws fits sheet tiles cut free counts count way code tells g l) ∙ e)
 
@@ -95,7 +95,7 @@ module _ (I J : ℕ) (hs ws : ℕ → ℕ) (fits : Fits I J hs ws) (sheet : List
   pub tiled-incoming : (h : ℕ) → h < M → comesIn I J hs ws way code T h ≡ incoming N to C c (at h)
   tiled-incoming h l =
       comes-to h l
-      ∙ came-count N to C (I * J) (cellsIn J hs ws) ton (tileAt I J hs ws) M (feeds I J hs ws way code) (borderTile I J hs ws) cell
+      ∙ came-count N to C (I * J) (cellsIn J hs ws) ton (sheetPlace I J hs ws) M (feeds I J hs ws way code) (borderTile I J hs ws) cell
       (whole I J hs ws fits sheet tiles cut counts count way code free tells) sheet-free (unit sheet) c sheet-counts (λ t. unit (tiles t)) counts same-unit tile-counts T joined (at h)
 
   -- and no more than is counted there
@@ -118,23 +118,23 @@ module _ (I J : ℕ) (hs ws : ℕ → ℕ) (fits : Fits I J hs ws) (sheet : List
   pub comes-dry : (h : ℕ) → h < M → landAt sheet (at h) ≡ false → comesIn I J hs ws way code T h ≡ 0
   comes-dry h l e = comes-absent I J hs ws way code T h (land-is I J hs ws fits sheet tiles cut free counts count way code tells h l ∙ e)
 
-  came : (t x : ℕ) → t < I * J → x < cellsIn J hs ws t → comesAt I J hs ws way code T t x ≡ sum M (λ g. on (C (at g) && eqb (to (at g)) (tileAt I J hs ws t x)) (T g))
+  came : (t x : ℕ) → t < I * J → x < cellsIn J hs ws t → comesAt I J hs ws way code T t x ≡ sum M (λ g. on (C (at g) && eqb (to (at g)) (sheetPlace I J hs ws t x)) (T g))
   came t x lt lx =
       elim (test (onBorder (heightOf J hs t) (widthOf J ws t) x)) [
         | inl e ↦
             rw e
-            (comes-to (borderOf J hs ws t x) (of-below I J hs ws t x lt lx e)
+            (comes-to (numberInMosaic J hs ws t x) (of-below I J hs ws t x lt lx e)
             ∙ ap (λ (p : ℕ). sum M (λ g. on (C (at g) && eqb (to (at g)) p) (T g))) (of-at I J hs ws t x lt lx e))
         | inr e ↦
             rw e
             (sym (F.none-in M N to C at (landsOn I J hs ws way code) (leadsTo I J hs ws way) out (records I J hs ws fits sheet tiles cut free counts count way code tells) T
-            (tileAt I J hs ws t x) (tile-below I J hs ws t x lt lx) (λ h lh k. true≢false (sym (border-on I J hs ws t x h lt lx lh k) ∙ e))))
+            (sheetPlace I J hs ws t x) (tile-below I J hs ws t x lt lx) (λ h lh k. true≢false (sym (border-on I J hs ws t x h lt lx lh k) ∙ e))))
       ]
 
   -- finished tiles hold the sheet's counts
   pub tiled-counts : (f : ℕ → ℕ → ℕ) → ((t : ℕ) → t < I * J → Counts (cellsIn J hs ws t) (ton t) (λ x. unit (tiles t) x + comesAt I J hs ws way code T t x) (f t))
-      → (t x : ℕ) → t < I * J → x < cellsIn J hs ws t → f t x ≡ c (tileAt I J hs ws t x)
+      → (t x : ℕ) → t < I * J → x < cellsIn J hs ws t → f t x ≡ c (sheetPlace I J hs ws t x)
   tiled-counts f finishes =
-      mosaic N to C (I * J) (cellsIn J hs ws) ton (tileAt I J hs ws) M (feeds I J hs ws way code) (borderTile I J hs ws) cell
+      mosaic N to C (I * J) (cellsIn J hs ws) ton (sheetPlace I J hs ws) M (feeds I J hs ws way code) (borderTile I J hs ws) cell
       (whole I J hs ws fits sheet tiles cut counts count way code free tells) sheet-free (unit sheet) c sheet-counts (λ t. unit (tiles t)) counts same-unit tile-counts T joined
       (comesAt I J hs ws way code T) f came finishes

@@ -18,7 +18,7 @@ use Rattle.sheet.specs.Sheet.{codeAt, landAt, stepFrom, destOf}
 use Rattle.sheet.proofs.Dest.{dest-land, dest-step, from-land, to-land}
 use Rattle.tile.specs.Way.{crosses}
 use Rattle.tile.proofs.Ways.{crosses-border, steps-in, steps-out}
-use Rattle.mosaic.specs.Layout.{sheetRows, sheetCols, heightOf, widthOf, cellsIn, tileAt, allBorders, borderAt, Cut, borderOf}
+use Rattle.mosaic.specs.Layout.{sheetRows, sheetCols, heightOf, widthOf, cellsIn, sheetPlace, allBorders, borderSheetPlace, Cut, numberInMosaic}
 use Rattle.mosaic.proofs.Grid.{tileOf, tile-is, tile-below, tile-places, tile-cover}
 use Rattle.mosaic.proofs.Borders.{of-below, of-at}
 use Rattle.mosaic.proofs.Neighbours.{step-stays, step-leaves}
@@ -79,14 +79,14 @@ module _ (I J : ℕ) (hs ws : ℕ → ℕ) (sheet : List ℕ) where
     abbrev ton : ℕ → ℕ → ℕ
     ton t = destOf (heightOf J hs t) (widthOf J ws t) (tiles t)
 
-    pub same-land : (t x : ℕ) → t < I * J → x < cellsIn J hs ws t → landAt (tiles t) x ≡ landAt sheet (tileAt I J hs ws t x)
+    pub same-land : (t x : ℕ) → t < I * J → x < cellsIn J hs ws t → landAt (tiles t) x ≡ landAt sheet (sheetPlace I J hs ws t x)
     unfolding landAt
     same-land t x lt lx = ap isArrow (cut .codes t x lt lx)
 
     module _ (t x : ℕ) (lt : t < I * J) (lx : x < cellsIn J hs ws t) where
       -- x's place on the sheet
       abbrev p : ℕ
-      p = tileAt I J hs ws t x
+      p = sheetPlace I J hs ws t x
 
       -- the place that x's arrow steps onto in the tile
       abbrev here : ℕ
@@ -96,7 +96,7 @@ module _ (I J : ℕ) (hs ws : ℕ → ℕ) (sheet : List ℕ) where
       same-code = cut .codes t x lt lx
 
       -- a step that stays in the tile is the same on the sheet
-      stays : landAt sheet p ≡ true → here < cellsIn J hs ws t → next p ≡ tileAt I J hs ws t here
+      stays : landAt sheet p ≡ true → here < cellsIn J hs ws t → next p ≡ sheetPlace I J hs ws t here
       unfolding landAt
       stays a l = rw same-code (step-stays I J hs ws (codeAt sheet p) a t x lt lx (rw (← same-code) l))
 
@@ -129,12 +129,12 @@ module _ (I J : ℕ) (hs ws : ℕ → ℕ) (sheet : List ℕ) where
           ]
 
       -- an arrow in the tile is the sheet's
-      arrow-at : ton t x < cellsIn J hs ws t → kept N to cutAt p ≡ tileAt I J hs ws t (ton t x)
+      arrow-at : ton t x < cellsIn J hs ws t → kept N to cutAt p ≡ sheetPlace I J hs ws t (ton t x)
       arrow-at h =
           let a : landAt sheet p ≡ true = sym (same-land t x lt lx) ∙ from-land (heightOf J hs t) (widthOf J ws t) (tiles t) x refl h in
           let s : here ≡ ton t x = dest-step (heightOf J hs t) (widthOf J ws t) (tiles t) x refl h in
           let l : here < cellsIn J hs ws t = omega arith in
-          let e : next p ≡ tileAt I J hs ws t (ton t x) = stays a l ∙ ap (tileAt I J hs ws t) s in
+          let e : next p ≡ sheetPlace I J hs ws t (ton t x) = stays a l ∙ ap (sheetPlace I J hs ws t) s in
           kept-whole N to cutAt p (stays-tile a l)
           ∙ dest-land (sheetRows I hs) (sheetCols J ws) sheet p a e (sym (same-land t (ton t x) lt h) ∙ to-land (heightOf J hs t) (widthOf J ws t) (tiles t) x refl h)
 
@@ -148,8 +148,8 @@ module _ (I J : ℕ) (hs ws : ℕ → ℕ) (sheet : List ℕ) where
                   let a : landAt sheet p ≡ true = from-land (sheetRows I hs) (sheetCols J ws) sheet p refl l in
                   elim (below here (cellsIn J hs ws t)) [
                     | inl k ↦
-                        let e : to p ≡ tileAt I J hs ws t here = sym (dest-step (sheetRows I hs) (sheetCols J ws) sheet p refl l) ∙ stays a k in
-                        let b : landAt sheet (tileAt I J hs ws t here) ≡ true = ap (landAt sheet) (sym e) ∙ to-land (sheetRows I hs) (sheetCols J ws) sheet p refl l in
+                        let e : to p ≡ sheetPlace I J hs ws t here = sym (dest-step (sheetRows I hs) (sheetCols J ws) sheet p refl l) ∙ stays a k in
+                        let b : landAt sheet (sheetPlace I J hs ws t here) ≡ true = ap (landAt sheet) (sym e) ∙ to-land (sheetRows I hs) (sheetCols J ws) sheet p refl l in
                         absurd (omega (arith, dest-land (heightOf J hs t) (widthOf J ws t) (tiles t) x (same-land t x lt lx ∙ a) refl (same-land t here lt k ∙ b)))
                     | inr k ↦ absurd (true≢false (sym (leaves-tile a k) ∙ c))
                   ]
@@ -158,14 +158,14 @@ module _ (I J : ℕ) (hs ws : ℕ → ℕ) (sheet : List ℕ) where
           ]
 
     -- a tile is a part of the cut net
-    pub tile-part : (t : ℕ) → t < I * J → Part (cellsIn J hs ws t) N (ton t) (kept N to cutAt) (tileAt I J hs ws t)
+    pub tile-part : (t : ℕ) → t < I * J → Part (cellsIn J hs ws t) N (ton t) (kept N to cutAt) (sheetPlace I J hs ws t)
     tile-part t lt = record {
       places = tile-places I J hs ws t lt;
       arrow = λ x lx. arrow-at t x lt lx;
       ends = λ x lx. ends-at t x lt lx;
       before = λ q x lq lx e.
           let l : kept N to cutAt q < N = omega (arith, tile-below I J hs ws t x lt lx) in
-          let o : to q ≡ tileAt I J hs ws t x = sym (kept-one N to cutAt q l) ∙ e in
+          let o : to q ≡ sheetPlace I J hs ws t x = sym (kept-one N to cutAt q l) ∙ e in
           let lo : to q < N = omega (arith, tile-below I J hs ws t x lt lx) in
           let c : cutAt q ≡ false = elim (test (cutAt q)) [ inl c ↦ absurd (omega (arith, kept-cut N to cutAt q c)) | inr c ↦ c ] in
           let (u, y, lu, ly, ey) = tile-cover I J hs ws q lq in
@@ -174,9 +174,9 @@ module _ (I J : ℕ) (hs ws : ℕ → ℕ) (sheet : List ℕ) where
     }
 
     -- each exit is a border cell
-    pub exit-border : (e : ℕ) → e < N → cutAt e ≡ true → (g : ℕ) × (g < allBorders I J hs ws) × (borderAt I J hs ws g ≡ e)
+    pub exit-border : (e : ℕ) → e < N → cutAt e ≡ true → (g : ℕ) × (g < allBorders I J hs ws) × (borderSheetPlace I J hs ws g ≡ e)
     exit-border e l c =
         let (t, x, lt, lx, ex) = tile-cover I J hs ws e l in
         let x-crosses : crosses (heightOf J hs t) (widthOf J ws t) (tiles t) x ≡ true = sym (cut-is t x lt lx) ∙ ap cutAt ex ∙ c in
         let edge = crosses-border (heightOf J hs t) (widthOf J ws t) (tiles t) x x-crosses lx in
-        (borderOf J hs ws t x, of-below I J hs ws t x lt lx edge, of-at I J hs ws t x lt lx edge ∙ ex)
+        (numberInMosaic J hs ws t x, of-below I J hs ws t x lt lx edge, of-at I J hs ws t x lt lx edge ∙ ex)

@@ -11,7 +11,7 @@ use Rattle.sheet.specs.Compass.{lineOf, isArrow, stepOf}
 use Rattle.sheet.specs.Sheet.{landAt, stepFrom, destOf}
 use Rattle.tile.specs.Border.{edgeAt, onBorder, borderCells, borderNumber, nth, borderPlace}
 use Rattle.tile.specs.Way.{crosses, lastCell, wayAt}
-use Rattle.mosaic.specs.Layout.{heightOf, widthOf, tileAt, piece, bordersIn, allBorders, borderTile, borderIn, placeIn}
+use Rattle.mosaic.specs.Layout.{heightOf, widthOf, sheetPlace, piece, bordersIn, allBorders, borderTile, numberInTile, placeIn}
 use Rattle.mosaic.specs.Join.{firstBelow, isLand, exitAt, onto, leadsTo, feeds, comesIn}
 
 -- the values f 0, f 1, .., f (n - 1)
@@ -22,11 +22,11 @@ values (suc n) f = values n f ++ (f n ∷ [])
 -- what true records say
 abbrev wayOf : (I J : ℕ) (hs ws : ℕ → ℕ) → List (List ℕ) → ℕ → ℕ
 wayOf I J hs ws tiles g =
-    wayAt (heightOf J hs (borderTile I J hs ws g)) (widthOf J ws (borderTile I J hs ws g)) (getD tiles (borderTile I J hs ws g) []) (placeIn J hs ws (borderTile I J hs ws g) (borderIn I J hs ws g)) .number
+    wayAt (heightOf J hs (borderTile I J hs ws g)) (widthOf J ws (borderTile I J hs ws g)) (getD tiles (borderTile I J hs ws g) []) (placeIn J hs ws (borderTile I J hs ws g) (numberInTile I J hs ws g)) .number
 
 abbrev codeOf : (I J : ℕ) (hs ws : ℕ → ℕ) → List (List ℕ) → ℕ → ℕ
 codeOf I J hs ws tiles g =
-    wayAt (heightOf J hs (borderTile I J hs ws g)) (widthOf J ws (borderTile I J hs ws g)) (getD tiles (borderTile I J hs ws g) []) (placeIn J hs ws (borderTile I J hs ws g) (borderIn I J hs ws g)) .code
+    wayAt (heightOf J hs (borderTile I J hs ws g)) (widthOf J ws (borderTile I J hs ws g)) (getD tiles (borderTile I J hs ws g) []) (placeIn J hs ws (borderTile I J hs ws g) (numberInTile I J hs ws g)) .code
 
 -- what each border cell feeds
 abbrev fed : (I J : ℕ) (hs ws : ℕ → ℕ) → List (List ℕ) → List ℕ
@@ -43,5 +43,5 @@ abbrev N : List (List ℕ)
 N = (2 ∷ []) ∷ (255 ∷ []) ∷ (255 ∷ []) ∷ (2 ∷ []) ∷ []
 
 joined : (fed 2 2 ones ones N ≡ 3 ∷ 4 ∷ 4 ∷ 4 ∷ []) × (came 2 2 ones ones N (1 ∷ 0 ∷ 0 ∷ 2 ∷ []) ≡ 0 ∷ 0 ∷ 0 ∷ 1 ∷ [])
-unfolding values sum last lastIn lineOf isArrow stepOf landAt stepFrom destOf edgeAt onBorder borderCells borderNumber nth borderPlace crosses lastCell wayAt tileAt piece bordersIn borderTile borderIn firstBelow isLand exitAt onto leadsTo feeds comesIn
+unfolding values sum last lastIn lineOf isArrow stepOf landAt stepFrom destOf edgeAt onBorder borderCells borderNumber nth borderPlace crosses lastCell wayAt sheetPlace piece bordersIn borderTile numberInTile firstBelow isLand exitAt onto leadsTo feeds comesIn
 joined = (refl, refl)

@@ -18,7 +18,7 @@ use Rattle.sheet.proofs.Dest.{dest-land, dest-step, to-land}
 use Rattle.tile.specs.Border.{onBorder}
 use Rattle.tile.specs.Way.{crosses}
 use Rattle.tile.proofs.Ways.{crosses-step}
-use Rattle.mosaic.specs.Layout.{sheetRows, sheetCols, heightOf, widthOf, cellsIn, tileAt, allBorders, borderTile, borderIn, placeIn, borderAt, Cut, Fits, borderOf}
+use Rattle.mosaic.specs.Layout.{sheetRows, sheetCols, heightOf, widthOf, cellsIn, sheetPlace, allBorders, borderTile, numberInTile, placeIn, borderSheetPlace, Cut, Fits, numberInMosaic}
 use Rattle.mosaic.specs.Join.{isLand, stepsOnto, onto, leadsTo, feeds, comesIn, TilesFree, Tells}
 use Rattle.mosaic.proofs.Borders.{tile-in, cell-in, border-places, of-below, of-at}
 use Rattle.mosaic.proofs.Onto.{onto-at, onto-is}
@@ -70,16 +70,16 @@ module _ (I J : ℕ) (hs ws : ℕ → ℕ) (fits : Fits I J hs ws) (sheet : List
   M = allBorders I J hs ws
 
   abbrev at : ℕ → ℕ
-  at = borderAt I J hs ws
+  at = borderSheetPlace I J hs ws
 
   -- an exit's code steps where the sheet's arrow steps
   steps-same : (g : ℕ) → g < M → C (at g) ≡ true → stepsOnto I J hs ws code g ≡ stepFrom (sheetRows I hs) (sheetCols J ws) (stepOf (codeAt sheet (at g))) (at g)
   steps-same g l c =
       ap (λ (x : ℕ). stepFrom (sheetRows I hs) (sheetCols J ws) (stepOf x) (at g)) (exit-code I J hs ws fits sheet tiles cut free counts count way code tells g l c)
 
-  exit-crosses : (g : ℕ) → g < M → C (at g) ≡ true → crosses (heightOf J hs (borderTile I J hs ws g)) (widthOf J ws (borderTile I J hs ws g)) (tiles (borderTile I J hs ws g)) (placeIn J hs ws (borderTile I J hs ws g) (borderIn I J hs ws g)) ≡ true
+  exit-crosses : (g : ℕ) → g < M → C (at g) ≡ true → crosses (heightOf J hs (borderTile I J hs ws g)) (widthOf J ws (borderTile I J hs ws g)) (tiles (borderTile I J hs ws g)) (placeIn J hs ws (borderTile I J hs ws g) (numberInTile I J hs ws g)) ≡ true
   exit-crosses g l c =
-      sym (cut-is I J hs ws sheet tiles cut (borderTile I J hs ws g) (placeIn J hs ws (borderTile I J hs ws g) (borderIn I J hs ws g)) (tile-in I J hs ws g l) (cell-in I J hs ws g l)) ∙ c
+      sym (cut-is I J hs ws sheet tiles cut (borderTile I J hs ws g) (placeIn J hs ws (borderTile I J hs ws g) (numberInTile I J hs ws g)) (tile-in I J hs ws g l) (cell-in I J hs ws g l)) ∙ c
 
   -- where an exit's arrow ends on land of the mosaic
   step-on : (g : ℕ) → g < M → C (at g) ≡ true → landsOn I J hs ws way code g < M → to (at g) ≡ at (landsOn I J hs ws way code g)
@@ -98,8 +98,8 @@ module _ (I J : ℕ) (hs ws : ℕ → ℕ) (fits : Fits I J hs ws) (sheet : List
         | inl b ↦
             let k : stepFrom (sheetRows I hs) (sheetCols J ws) (stepOf (codeAt sheet (at g))) (at g) ≡ to (at g) = dest-step (sheetRows I hs) (sheetCols J ws) sheet (at g) refl b in
             let (s, y, ls, ly, d, edge, e) = leads g l c (omega arith) in
-            let o : onto I J hs ws code g ≡ borderOf J hs ws s y =
-            onto-is I J hs ws code g (borderOf J hs ws s y) (of-below I J hs ws s y ls ly edge) (of-at I J hs ws s y ls ly edge ∙ sym e ∙ sym (steps-same g l c)) in
+            let o : onto I J hs ws code g ≡ numberInMosaic J hs ws s y =
+            onto-is I J hs ws code g (numberInMosaic J hs ws s y) (of-below I J hs ws s y ls ly edge) (of-at I J hs ws s y ls ly edge ∙ sym e ∙ sym (steps-same g l c)) in
             let lo : onto I J hs ws code g < M = omega (arith, of-below I J hs ws s y ls ly edge) in
             let a : isLand way code (onto I J hs ws code g) ≡ true =
             land-is I J hs ws fits sheet tiles cut free counts count way code tells (onto I J hs ws code g) lo
@@ -110,11 +110,11 @@ module _ (I J : ℕ) (hs ws : ℕ → ℕ) (fits : Fits I J hs ws) (sheet : List
     where
       leads : (g : ℕ) → g < M → C (at g) ≡ true → stepFrom (sheetRows I hs) (sheetCols J ws) (stepOf (codeAt sheet (at g))) (at g) < N
           → (s : ℕ) × (y : ℕ) × (s < I * J) × (y < cellsIn J hs ws s) × (borderTile I J hs ws g ≡ s → ⊥) × (onBorder (heightOf J hs s) (widthOf J ws s) y ≡ true)
-          × (stepFrom (sheetRows I hs) (sheetCols J ws) (stepOf (codeAt sheet (at g))) (at g) ≡ tileAt I J hs ws s y)
+          × (stepFrom (sheetRows I hs) (sheetCols J ws) (stepOf (codeAt sheet (at g))) (at g) ≡ sheetPlace I J hs ws s y)
       leads g l c =
           let lt = tile-in I J hs ws g l in
           let lx = cell-in I J hs ws g l in
-          step-leaves I J hs ws (codeAt sheet (at g)) (cut-land I J hs ws sheet (at g) c) (borderTile I J hs ws g) (placeIn J hs ws (borderTile I J hs ws g) (borderIn I J hs ws g)) lt lx
+          step-leaves I J hs ws (codeAt sheet (at g)) (cut-land I J hs ws sheet (at g) c) (borderTile I J hs ws g) (placeIn J hs ws (borderTile I J hs ws g) (numberInTile I J hs ws g)) lt lx
           (rw (← (cut .codes _ _ lt lx)) (crosses-step _ _ _ _ (exit-crosses g l c)))
 
   pub records : F.Records M N to C at (landsOn I J hs ws way code) (leadsTo I J hs ws way)

@@ -6,7 +6,7 @@ use native.Mathlib.Omega.{arith}
 use Rattle.flow.specs.Net.{sum}
 use Rattle.flow.proofs.Part.{Places}
 use Rattle.sheet.proofs.Places.{place-lt, row-of, col-of}
-use Rattle.mosaic.specs.Layout.{sheetRows, sheetCols, heightOf, widthOf, cellsIn, spotAt, tileAt, piece}
+use Rattle.mosaic.specs.Layout.{sheetRows, sheetCols, heightOf, widthOf, cellsIn, spotAt, sheetPlace, piece}
 use Rattle.mosaic.proofs.Pieces.{row-in, col-in, spot-is, same-spot, Lies, piece-is, piece-at, piece-below}
 
 module _ (I J : ℕ) (hs ws : ℕ → ℕ) where
@@ -37,23 +37,23 @@ module _ (I J : ℕ) (hs ws : ℕ → ℕ) where
     pub spot-place : r * widthOf J ws t + c < cellsIn J hs ws t
     spot-place = place-lt (heightOf J hs t) (widthOf J ws t) r c lr lc
 
-    pub spot-at : tileAt I J hs ws t (r * widthOf J ws t + c) ≡ spotAt J hs ws t r c
-    unfolding tileAt
+    pub spot-at : sheetPlace I J hs ws t (r * widthOf J ws t + c) ≡ spotAt J hs ws t r c
+    unfolding sheetPlace
     spot-at = ap₂ (spotAt J hs ws t) (row-of (widthOf J ws t) r c lc) (col-of (widthOf J ws t) r c lc)
 
   -- ---- place x of tile t
 
   module _ (t x : ℕ) (lt : t < I * J) (lx : x < cellsIn J hs ws t) where
-    pub tile-row : tileAt I J hs ws t x / sheetCols J ws ≡ sum (t / J) hs + x / widthOf J ws t
-    unfolding tileAt
+    pub tile-row : sheetPlace I J hs ws t x / sheetCols J ws ≡ sum (t / J) hs + x / widthOf J ws t
+    unfolding sheetPlace
     tile-row = spot-row t _ _ lt (row-in _ _ x lx) (col-in _ _ x lx)
 
-    pub tile-col : tileAt I J hs ws t x % sheetCols J ws ≡ sum (t % J) ws + x % widthOf J ws t
-    unfolding tileAt
+    pub tile-col : sheetPlace I J hs ws t x % sheetCols J ws ≡ sum (t % J) ws + x % widthOf J ws t
+    unfolding sheetPlace
     tile-col = spot-col t _ _ lt (row-in _ _ x lx) (col-in _ _ x lx)
 
-    pub tile-below : tileAt I J hs ws t x < N
-    unfolding tileAt
+    pub tile-below : sheetPlace I J hs ws t x < N
+    unfolding sheetPlace
     tile-below = spot-below t _ _ lt (row-in _ _ x lx) (col-in _ _ x lx)
 
   -- ---- the tile of a place of the sheet
@@ -61,7 +61,7 @@ module _ (I J : ℕ) (hs ws : ℕ → ℕ) where
   unfoldable pub tileOf : ℕ → ℕ
   tileOf p = piece hs I (p / sheetCols J ws) * J + piece ws J (p % sheetCols J ws)
 
-  pub tile-is : (t x : ℕ) → t < I * J → x < cellsIn J hs ws t → tileOf (tileAt I J hs ws t x) ≡ t
+  pub tile-is : (t x : ℕ) → t < I * J → x < cellsIn J hs ws t → tileOf (sheetPlace I J hs ws t x) ≡ t
   unfolding tileOf
   tile-is t x lt lx =
       ap₂ (λ (i j : ℕ). i * J + j)
@@ -70,11 +70,11 @@ module _ (I J : ℕ) (hs ws : ℕ → ℕ) where
       ∙ spot-is J t
 
   -- two tiles have no cell together
-  pub same-tile : (t u x y : ℕ) → t < I * J → u < I * J → x < cellsIn J hs ws t → y < cellsIn J hs ws u → tileAt I J hs ws t x ≡ tileAt I J hs ws u y → t ≡ u
+  pub same-tile : (t u x y : ℕ) → t < I * J → u < I * J → x < cellsIn J hs ws t → y < cellsIn J hs ws u → sheetPlace I J hs ws t x ≡ sheetPlace I J hs ws u y → t ≡ u
   same-tile t u x y lt lu lx ly e = sym (tile-is t x lt lx) ∙ ap tileOf e ∙ tile-is u y lu ly
 
   -- and a tile has each of its cells once
-  pub tile-places : (t : ℕ) → t < I * J → Places (cellsIn J hs ws t) N (tileAt I J hs ws t)
+  pub tile-places : (t : ℕ) → t < I * J → Places (cellsIn J hs ws t) N (sheetPlace I J hs ws t)
   tile-places t lt = record {
     into = λ x lx. tile-below t x lt lx;
     once = λ x y lx ly e. same-spot (widthOf J ws t) x y
@@ -111,7 +111,7 @@ module _ (I J : ℕ) (hs ws : ℕ → ℕ) where
             },
           )
 
-  pub tile-cover : (p : ℕ) → p < N → (t : ℕ) × (x : ℕ) × (t < I * J) × (x < cellsIn J hs ws t) × (tileAt I J hs ws t x ≡ p)
+  pub tile-cover : (p : ℕ) → p < N → (t : ℕ) × (x : ℕ) × (t < I * J) × (x < cellsIn J hs ws t) × (sheetPlace I J hs ws t x ≡ p)
   tile-cover p l =
       let (t, r, c, s) = spot-cover (p / sheetCols J ws) (p % sheetCols J ws) (row-in _ _ p l) (col-in _ _ p l) in (
         t,

@@ -15,7 +15,7 @@ use Rattle.sheet.specs.Sheet.{codeAt, landAt, destOf}
 use Rattle.sheet.proofs.Dest.{dest-beyond}
 use Rattle.tile.specs.Way.{crosses, lastCell}
 use Rattle.tile.proofs.Ways.{crosses-border, last-in}
-use Rattle.mosaic.specs.Layout.{sheetRows, sheetCols, heightOf, widthOf, cellsIn, tileAt, bordersIn, bordersBefore, allBorders, borderTile, borderIn, placeIn, borderAt, Cut, Fits}
+use Rattle.mosaic.specs.Layout.{sheetRows, sheetCols, heightOf, widthOf, cellsIn, sheetPlace, bordersIn, bordersBefore, allBorders, borderTile, numberInTile, placeIn, borderSheetPlace, Cut, Fits}
 use Rattle.mosaic.specs.Join.{exitAt, isLand, leadsTo, own, TilesFree, Tells}
 use Rattle.mosaic.proofs.Grid.{tile-cover}
 use Rattle.mosaic.proofs.Borders.{border-tile, border-in, border-at, place-in, each-border, of-below, of-at}
@@ -39,7 +39,7 @@ module _ (I J : ℕ) (hs ws : ℕ → ℕ) (fits : Fits I J hs ws) (sheet : List
   M = allBorders I J hs ws
 
   abbrev at : ℕ → ℕ
-  at = borderAt I J hs ws
+  at = borderSheetPlace I J hs ws
 
   -- the net of tile t, and whether an arrow crosses its edge
   abbrev ton : ℕ → ℕ → ℕ
@@ -61,7 +61,7 @@ module _ (I J : ℕ) (hs ws : ℕ → ℕ) (fits : Fits I J hs ws) (sheet : List
   pub cut-free : NoLoop N (kept N to C)
   cut-free p l d =
       let (t, x, lt, lx, e) = tile-cover I J hs ws p l in
-      free t lt x lx (part-down (cellsIn J hs ws t) N (ton t) (kept N to C) (tileAt I J hs ws t) (tile-part I J hs ws sheet tiles cut t lt) (tile-out t lt) kout x x lx lx .1 (rw e d))
+      free t lt x lx (part-down (cellsIn J hs ws t) N (ton t) (kept N to C) (sheetPlace I J hs ws t) (tile-part I J hs ws sheet tiles cut t lt) (tile-out t lt) kout x x lx lx .1 (rw e d))
 
   -- ---- border cell g
 
@@ -84,12 +84,12 @@ module _ (I J : ℕ) (hs ws : ℕ → ℕ) (fits : Fits I J hs ws) (sheet : List
       land-in I J hs ws fits sheet tiles cut free counts count way code tells t b lt lb
       ∙ same-land I J hs ws sheet tiles cut t (placeIn J hs ws t b) lt (place-in I J hs ws t b lt lb) ∙ ap (landAt sheet) (sym (border-at I J hs ws t b lt lb)))
 
-  pub own-is : (g : ℕ) → g < M → own I J hs ws count way g ≡ on (C (at g)) (counts (borderTile I J hs ws g) (placeIn J hs ws (borderTile I J hs ws g) (borderIn I J hs ws g)))
+  pub own-is : (g : ℕ) → g < M → own I J hs ws count way g ≡ on (C (at g)) (counts (borderTile I J hs ws g) (placeIn J hs ws (borderTile I J hs ws g) (numberInTile I J hs ws g)))
   unfolding own
   own-is g l = ap₂ on (exit-is g l) (count-at g l)
     where
-      count-at : (g : ℕ) → g < M → count g ≡ counts (borderTile I J hs ws g) (placeIn J hs ws (borderTile I J hs ws g) (borderIn I J hs ws g))
-      count-at = each-border I J hs ws (λ g. count g ≡ counts (borderTile I J hs ws g) (placeIn J hs ws (borderTile I J hs ws g) (borderIn I J hs ws g))) (λ t b lt lb.
+      count-at : (g : ℕ) → g < M → count g ≡ counts (borderTile I J hs ws g) (placeIn J hs ws (borderTile I J hs ws g) (numberInTile I J hs ws g))
+      count-at = each-border I J hs ws (λ g. count g ≡ counts (borderTile I J hs ws g) (placeIn J hs ws (borderTile I J hs ws g) (numberInTile I J hs ws g))) (λ t b lt lb.
           tells .count-is t b lt lb ∙ sym (ap₂ (λ (u v : ℕ). counts u (placeIn J hs ws u v)) (border-tile I J hs ws t b lt lb) (border-in I J hs ws t b lt lb)))
 
   -- ---- its way
@@ -102,14 +102,14 @@ module _ (I J : ℕ) (hs ws : ℕ → ℕ) (fits : Fits I J hs ws) (sheet : List
     end-in = last-in (heightOf J hs t) (widthOf J ws t) (tiles t) (cut .tile-long t lt) (free t lt) (placeIn J hs ws t b) (place-in I J hs ws t b lt lb)
 
     -- the last cell of its path in the cut net
-    way-at : X.way N to C (at (bordersBefore J hs ws t + b)) ≡ tileAt I J hs ws t end
+    way-at : X.way N to C (at (bordersBefore J hs ws t + b)) ≡ sheetPlace I J hs ws t end
     unfolding X.way lastCell
     way-at =
         ap (X.way N to C) (border-at I J hs ws t b lt lb)
-        ∙ part-last (cellsIn J hs ws t) N (ton t) (kept N to C) (tileAt I J hs ws t) (tile-part I J hs ws sheet tiles cut t lt) (tile-out t lt) kout (free t lt) cut-free
+        ∙ part-last (cellsIn J hs ws t) N (ton t) (kept N to C) (sheetPlace I J hs ws t) (tile-part I J hs ws sheet tiles cut t lt) (tile-out t lt) kout (free t lt) cut-free
         (placeIn J hs ws t b) (place-in I J hs ws t b lt lb)
 
-    end-cut : C (tileAt I J hs ws t end) ≡ over t end
+    end-cut : C (sheetPlace I J hs ws t end) ≡ over t end
     end-cut = cut-is I J hs ws sheet tiles cut t end lt end-in
 
     way-exit-in : leadsTo I J hs ws way (bordersBefore J hs ws t + b) < M
@@ -118,7 +118,7 @@ module _ (I J : ℕ) (hs ws : ℕ → ℕ) (fits : Fits I J hs ws) (sheet : List
         elim (test (over t end)) [
           | inl o ↦
               let e = leads-end I J hs ws fits sheet tiles cut free counts count way code tells t b lt lb o in
-              let k : at (leadsTo I J hs ws way (bordersBefore J hs ws t + b)) ≡ tileAt I J hs ws t end =
+              let k : at (leadsTo I J hs ws way (bordersBefore J hs ws t + b)) ≡ sheetPlace I J hs ws t end =
               ap at e ∙ of-at I J hs ws t end lt end-in (crosses-border (heightOf J hs t) (widthOf J ws t) (tiles t) end o end-in) in
               (way-at ∙ sym k, ap C k ∙ end-cut ∙ o)
           | inr o ↦ absurd (omega (arith, leads-none I J hs ws fits sheet tiles cut free counts count way code tells t b lt lb o))

@@ -11,7 +11,7 @@ use Rattle.sheet.specs.Compass.{isArrow, stepOf}
 use Rattle.sheet.specs.Sheet.{stepFrom}
 use Rattle.sheet.proofs.Places.{row-of, col-of}
 use Rattle.tile.specs.Border.{onBorder}
-use Rattle.mosaic.specs.Layout.{sheetRows, sheetCols, heightOf, widthOf, cellsIn, spotAt, tileAt}
+use Rattle.mosaic.specs.Layout.{sheetRows, sheetCols, heightOf, widthOf, cellsIn, spotAt, sheetPlace}
 use Rattle.mosaic.proofs.Pieces.{row-in, col-in, same-spot, piece-below, piece-end}
 use Rattle.mosaic.proofs.Grid.{spot-col-in, spot-place, spot-at, Spot, spot-cover}
 use Rattle.mosaic.proofs.Steps.{down, right, down-most, right-most, Inside, edge-on, step-inside, step-outside, step-says, place-inside, place-says, place-lands}
@@ -102,7 +102,7 @@ module _ (I J : ℕ) (hs ws : ℕ → ℕ) (a : ℕ) (arrow : isArrow a ≡ true
     here = stepFrom (heightOf J hs t) (widthOf J ws t) (stepOf a) x
 
     abbrev there : ℕ
-    there = stepFrom (sheetRows I hs) (sheetCols J ws) (stepOf a) (tileAt I J hs ws t x)
+    there = stepFrom (sheetRows I hs) (sheetCols J ws) (stepOf a) (sheetPlace I J hs ws t x)
 
     lr : x / widthOf J ws t < heightOf J hs t
     lr = row-in (heightOf J hs t) (widthOf J ws t) x lx
@@ -111,19 +111,19 @@ module _ (I J : ℕ) (hs ws : ℕ → ℕ) (a : ℕ) (arrow : isArrow a ≡ true
     lc = col-in (heightOf J hs t) (widthOf J ws t) x lx
 
     -- a step that stays in the tile is the same on the sheet
-    pub step-stays : here < cellsIn J hs ws t → there ≡ tileAt I J hs ws t here
-    unfolding tileAt
+    pub step-stays : here < cellsIn J hs ws t → there ≡ sheetPlace I J hs ws t here
+    unfolding sheetPlace
     step-stays l =
         let i = place-says a arrow (heightOf J hs t) (widthOf J ws t) x lx l in
         spot-step t (x / widthOf J ws t) (x % widthOf J ws t) lt lr lc t (x / widthOf J ws t + down a - 1) (x % widthOf J ws t + right a - 1)
         (moved-within hs I (t / J) _ _ (row-in I J t lt) (i .north) (i .south)) (moved-within ws J (t % J) _ _ (col-in I J t lt) (i .west) (i .east))
-        ∙ sym (ap (tileAt I J hs ws t) (place-inside a arrow (heightOf J hs t) (widthOf J ws t) x lx i)
+        ∙ sym (ap (sheetPlace I J hs ws t) (place-inside a arrow (heightOf J hs t) (widthOf J ws t) x lx i)
         ∙ spot-at I J hs ws t _ _ lt (omega (arith, i .north, i .south)) (omega (arith, i .west, i .east)))
 
     -- a step that leaves the tile, and stays on the sheet, leads to a border cell of another tile
     pub step-leaves : cellsIn J hs ws t ≤ here → there < sheetRows I hs * sheetCols J ws
-        → (s : ℕ) × (y : ℕ) × (s < I * J) × (y < cellsIn J hs ws s) × (t ≡ s → ⊥) × (onBorder (heightOf J hs s) (widthOf J ws s) y ≡ true) × (there ≡ tileAt I J hs ws s y)
-    unfolding tileAt
+        → (s : ℕ) × (y : ℕ) × (s < I * J) × (y < cellsIn J hs ws s) × (t ≡ s → ⊥) × (onBorder (heightOf J hs s) (widthOf J ws s) y ≡ true) × (there ≡ sheetPlace I J hs ws s y)
+    unfolding sheetPlace
     step-leaves h l =
         let i = step-says a arrow (sheetRows I hs) (sheetCols J ws) (sum (t / J) hs + x / widthOf J ws t) (sum (t % J) ws + x % widthOf J ws t)
         (spot-col-in I J hs ws t (x / widthOf J ws t) (x % widthOf J ws t) lt lr lc) l in
@@ -133,7 +133,7 @@ module _ (I J : ℕ) (hs ws : ℕ → ℕ) (a : ℕ) (arrow : isArrow a ≡ true
       where
         go : (s r c : ℕ) → 1 ≤ sum (t / J) hs + x / widthOf J ws t + down a → 1 ≤ sum (t % J) ws + x % widthOf J ws t + right a
             → Spot I J hs ws (sum (t / J) hs + x / widthOf J ws t + down a - 1) (sum (t % J) ws + x % widthOf J ws t + right a - 1) s r c
-            → (s : ℕ) × (y : ℕ) × (s < I * J) × (y < cellsIn J hs ws s) × (t ≡ s → ⊥) × (onBorder (heightOf J hs s) (widthOf J ws s) y ≡ true) × (there ≡ tileAt I J hs ws s y)
+            → (s : ℕ) × (y : ℕ) × (s < I * J) × (y < cellsIn J hs ws s) × (t ≡ s → ⊥) × (onBorder (heightOf J hs s) (widthOf J ws s) y ≡ true) × (there ≡ sheetPlace I J hs ws s y)
         go s r c n w e =
             let ly = spot-place I J hs ws s r c (e .tile) (e .row-in) (e .col-in) in
             let d : t ≡ s → ⊥ = λ k. stays s r c n w e k in

@@ -9,7 +9,7 @@ use lib.Dec.{eqb}
 use borrow.Author.Tests.{eqb-true, eqb-false, lt-ltb, le-ltb}
 use Rattle.flow.proofs.Sum.{test}
 use Rattle.flow.proofs.Walk.{below}
-use Rattle.mosaic.specs.Layout.{sheetRows, sheetCols, allBorders, borderAt}
+use Rattle.mosaic.specs.Layout.{sheetRows, sheetCols, allBorders, borderSheetPlace}
 use Rattle.mosaic.specs.Join.{firstBelow, stepsOnto, onto}
 use Rattle.mosaic.proofs.Borders.{border-places}
 
@@ -56,25 +56,25 @@ module _ (t : ℕ → Bool) where
 module _ (I J : ℕ) (hs ws code : ℕ → ℕ) (g : ℕ) where
   pub onto-le : onto I J hs ws code g ≤ allBorders I J hs ws
   unfolding onto
-  onto-le = first-le (λ h. eqb (borderAt I J hs ws h) (stepsOnto I J hs ws code g)) (allBorders I J hs ws)
+  onto-le = first-le (λ h. eqb (borderSheetPlace I J hs ws h) (stepsOnto I J hs ws code g)) (allBorders I J hs ws)
 
-  pub onto-at : onto I J hs ws code g < allBorders I J hs ws → borderAt I J hs ws (onto I J hs ws code g) ≡ stepsOnto I J hs ws code g
+  pub onto-at : onto I J hs ws code g < allBorders I J hs ws → borderSheetPlace I J hs ws (onto I J hs ws code g) ≡ stepsOnto I J hs ws code g
   unfolding onto
-  onto-at l = eqb-true _ _ (first-hit (λ h. eqb (borderAt I J hs ws h) (stepsOnto I J hs ws code g)) (allBorders I J hs ws) l)
+  onto-at l = eqb-true _ _ (first-hit (λ h. eqb (borderSheetPlace I J hs ws h) (stepsOnto I J hs ws code g)) (allBorders I J hs ws) l)
 
-  onto-miss : allBorders I J hs ws ≤ onto I J hs ws code g → (h : ℕ) → h < allBorders I J hs ws → borderAt I J hs ws h ≡ stepsOnto I J hs ws code g → ⊥
+  onto-miss : allBorders I J hs ws ≤ onto I J hs ws code g → (h : ℕ) → h < allBorders I J hs ws → borderSheetPlace I J hs ws h ≡ stepsOnto I J hs ws code g → ⊥
   unfolding onto
-  onto-miss m h l = eqb-false _ _ (first-miss (λ h. eqb (borderAt I J hs ws h) (stepsOnto I J hs ws code g)) (allBorders I J hs ws) m h l)
+  onto-miss m h l = eqb-false _ _ (first-miss (λ h. eqb (borderSheetPlace I J hs ws h) (stepsOnto I J hs ws code g)) (allBorders I J hs ws) m h l)
 
   -- it is the one that stands at that place
-  pub onto-is : (h : ℕ) → h < allBorders I J hs ws → borderAt I J hs ws h ≡ stepsOnto I J hs ws code g → onto I J hs ws code g ≡ h
+  pub onto-is : (h : ℕ) → h < allBorders I J hs ws → borderSheetPlace I J hs ws h ≡ stepsOnto I J hs ws code g → onto I J hs ws code g ≡ h
   onto-is h l e =
       elim (below (onto I J hs ws code g) (allBorders I J hs ws)) [
         | inl b ↦ border-places I J hs ws .once (onto I J hs ws code g) h b l (onto-at b ∙ sym e)
         | inr b ↦ absurd (onto-miss b h l e)
       ]
 
-  pub onto-none : ((h : ℕ) → h < allBorders I J hs ws → borderAt I J hs ws h ≡ stepsOnto I J hs ws code g → ⊥) → onto I J hs ws code g ≡ allBorders I J hs ws
+  pub onto-none : ((h : ℕ) → h < allBorders I J hs ws → borderSheetPlace I J hs ws h ≡ stepsOnto I J hs ws code g → ⊥) → onto I J hs ws code g ≡ allBorders I J hs ws
   onto-none empty =
       elim (below (onto I J hs ws code g) (allBorders I J hs ws)) [
         | inl b ↦ absurd (empty (onto I J hs ws code g) b (onto-at b))

@@ -13,7 +13,7 @@ use Rattle.flow.proofs.Joined as F
 use Rattle.flow.proofs.Mosaic.{Mosaic, whole-free, join-loop}
 use Rattle.sheet.specs.Sheet.{destOf, SheetNoLoop, SheetOnLoop}
 use Rattle.sheet.proofs.Dest.{dest-beyond}
-use Rattle.mosaic.specs.Layout.{sheetRows, sheetCols, heightOf, widthOf, cellsIn, tileAt, allBorders, borderTile, borderIn, placeIn, borderAt, Cut, Fits}
+use Rattle.mosaic.specs.Layout.{sheetRows, sheetCols, heightOf, widthOf, cellsIn, sheetPlace, allBorders, borderTile, numberInTile, placeIn, borderSheetPlace, Cut, Fits}
 use Rattle.mosaic.specs.Join.{exitAt, leadsTo, feeds, TilesFree, Tells}
 use Rattle.mosaic.proofs.Grid.{tile-cover}
 use Rattle.mosaic.proofs.Borders.{tile-in, cell-in}
@@ -39,7 +39,7 @@ module _ (I J : ℕ) (hs ws : ℕ → ℕ) (fits : Fits I J hs ws) (sheet : List
   M = allBorders I J hs ws
 
   abbrev at : ℕ → ℕ
-  at = borderAt I J hs ws
+  at = borderSheetPlace I J hs ws
 
   out : (p : ℕ) → N ≤ p → N ≤ to p
   out = dest-beyond (sheetRows I hs) (sheetCols J ws) sheet (cut .sheet-long)
@@ -50,7 +50,7 @@ module _ (I J : ℕ) (hs ws : ℕ → ℕ) (fits : Fits I J hs ws) (sheet : List
   -- a tile of a sheet without loops has none
   pub tile-free : SheetNoLoop (sheetRows I hs) (sheetCols J ws) sheet → TilesFree I J hs ws tiles
   tile-free free t lt =
-      part-free (cellsIn J hs ws t) N (ton t) (kept N to C) (tileAt I J hs ws t) (tile-part I J hs ws sheet tiles cut t lt) (tile-out t lt) (kept-out N to C out) (kept-free N to C out free)
+      part-free (cellsIn J hs ws t) N (ton t) (kept N to C) (sheetPlace I J hs ws t) (tile-part I J hs ws sheet tiles cut t lt) (tile-out t lt) (kept-out N to C out) (kept-free N to C out free)
 
   module _ (counts : ℕ → ℕ → ℕ) (count way code : ℕ → ℕ) where
     -- the join's net
@@ -62,7 +62,7 @@ module _ (I J : ℕ) (hs ws : ℕ → ℕ) (fits : Fits I J hs ws) (sheet : List
       feeds-same = λ i g. sym (feeds-is I J hs ws fits sheet tiles cut free counts count way code tells g) i
 
       -- the sheet, its tiles and the join
-      pub whole : Mosaic N to C (I * J) (cellsIn J hs ws) ton (tileAt I J hs ws) M join (borderTile I J hs ws) (λ g. placeIn J hs ws (borderTile I J hs ws g) (borderIn I J hs ws g))
+      pub whole : Mosaic N to C (I * J) (cellsIn J hs ws) ton (sheetPlace I J hs ws) M join (borderTile I J hs ws) (λ g. placeIn J hs ws (borderTile I J hs ws g) (numberInTile I J hs ws g))
       whole = record {
         out = out;
         tile = tile-part I J hs ws sheet tiles cut;
@@ -78,13 +78,13 @@ module _ (I J : ℕ) (hs ws : ℕ → ℕ) (fits : Fits I J hs ws) (sheet : List
       -- where no tile has a loop, the sheet has one exactly where the join has one
       pub join-free : SheetNoLoop (sheetRows I hs) (sheetCols J ws) sheet ↔ NoLoop M join
       join-free =
-          let e = whole-free N to C (I * J) (cellsIn J hs ws) ton (tileAt I J hs ws) M join _ _ whole in
+          let e = whole-free N to C (I * J) (cellsIn J hs ws) ton (sheetPlace I J hs ws) M join _ _ whole in
           (λ f. e .0 f .1, λ f. e .1 (free, f))
 
       -- a border cell lies on a loop of the join exactly where it is an exit and lies on a loop of the sheet
       pub tiled-loop : (g : ℕ) → g < M → OnLoop M join g ↔ ((exitAt I J hs ws way g ≡ true) × SheetOnLoop (sheetRows I hs) (sheetCols J ws) sheet (at g))
       tiled-loop g l =
-          let e = join-loop N to C (I * J) (cellsIn J hs ws) ton (tileAt I J hs ws) M join _ _ whole (cut-free I J hs ws fits sheet tiles cut free counts count way code tells) g l in
+          let e = join-loop N to C (I * J) (cellsIn J hs ws) ton (sheetPlace I J hs ws) M join _ _ whole (cut-free I J hs ws fits sheet tiles cut free counts count way code tells) g l in
           let x = exit-is I J hs ws fits sheet tiles cut free counts count way code tells g l in
           (λ o. let (c, k) = e .0 o in (x ∙ c, k), λ o. e .1 (sym x ∙ o .0, o .1))
 

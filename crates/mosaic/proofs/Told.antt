@@ -18,7 +18,7 @@ use Rattle.tile.specs.Way.{crosses, lastCell}
 use Rattle.tile.proofs.Borders as B
 use Rattle.tile.proofs.Cells.{cells-most}
 use Rattle.tile.proofs.Ways.{crosses-land, crosses-last, way-absent, way-inside, way-over, way-number, way-place}
-use Rattle.mosaic.specs.Layout.{heightOf, widthOf, cellsIn, bordersIn, bordersBefore, allBorders, placeIn, Cut, Fits, borderOf}
+use Rattle.mosaic.specs.Layout.{heightOf, widthOf, cellsIn, bordersIn, bordersBefore, allBorders, placeIn, Cut, Fits, numberInMosaic}
 use Rattle.mosaic.specs.Join.{exitAt, isLand, leadsTo, TilesFree, Tells}
 use Rattle.mosaic.proofs.Pieces.{row-in, col-in}
 use Rattle.mosaic.proofs.Borders.{border-tile, border-in, place-in}
@@ -137,7 +137,7 @@ module _ (I J : ℕ) (hs ws : ℕ → ℕ) (fits : Fits I J hs ws) where
     land-in = is-land said
 
     -- where the last cell crosses, the way leads to it; otherwise to none
-    to-end : Said → (over end ≡ true → leadsTo I J hs ws way g ≡ borderOf J hs ws t end) × (over end ≡ false → leadsTo I J hs ws way g ≡ allBorders I J hs ws)
+    to-end : Said → (over end ≡ true → leadsTo I J hs ws way g ≡ numberInMosaic J hs ws t end) × (over end ≡ false → leadsTo I J hs ws way g ≡ allBorders I J hs ws)
     unfolding leadsTo
     to-end (absent a w c) = (λ k. absurd (true≢false (sym k ∙ absent-end a)), λ k. rw w)
     to-end (inside a o w c) = (λ k. absurd (true≢false (sym k ∙ o)), λ k. rw w)
@@ -146,7 +146,7 @@ module _ (I J : ℕ) (hs ws : ℕ → ℕ) (fits : Fits I J hs ws) where
       λ k. absurd (true≢false (sym o ∙ k)),
     )
 
-    pub leads-end : over end ≡ true → leadsTo I J hs ws way g ≡ borderOf J hs ws t end
+    pub leads-end : over end ≡ true → leadsTo I J hs ws way g ≡ numberInMosaic J hs ws t end
     leads-end = to-end said .0
 
     pub leads-none : over end ≡ false → leadsTo I J hs ws way g ≡ allBorders I J hs ws

@@ -11,7 +11,7 @@ use Rattle.sheet.specs.Compass.{stepOf}
 use Rattle.sheet.specs.Sheet.{stepFrom, SheetNoLoop}
 use Rattle.tile.specs.Border.{onBorder}
 use Rattle.tile.specs.Way.{wayAt}
-use Rattle.mosaic.specs.Layout.{sheetRows, sheetCols, heightOf, widthOf, bordersIn, bordersBefore, allBorders, borderTile, borderIn, placeIn, borderAt, borderOf}
+use Rattle.mosaic.specs.Layout.{sheetRows, sheetCols, heightOf, widthOf, bordersIn, bordersBefore, allBorders, borderTile, numberInTile, placeIn, borderSheetPlace, numberInMosaic}
 
 -- the first of the numbers below n that passes a test, or n where none does
 unfoldable pub firstBelow : ℕ → (ℕ → Bool) → ℕ
@@ -25,15 +25,15 @@ isLand way code g = not (eqb (way g) 65535 && eqb (code g) 255)
 module _ (I J : ℕ) (hs ws : ℕ → ℕ) where
   -- an exit is a border cell whose way is itself
   unfoldable pub exitAt : (ℕ → ℕ) → ℕ → Bool
-  exitAt way g = eqb (way g) (borderIn I J hs ws g)
+  exitAt way g = eqb (way g) (numberInTile I J hs ws g)
 
   -- the place on the sheet that exit g steps onto
   abbrev pub stepsOnto : (ℕ → ℕ) → ℕ → ℕ
-  stepsOnto code g = stepFrom (sheetRows I hs) (sheetCols J ws) (stepOf (code g)) (borderAt I J hs ws g)
+  stepsOnto code g = stepFrom (sheetRows I hs) (sheetCols J ws) (stepOf (code g)) (borderSheetPlace I J hs ws g)
 
   -- the border cell that exit g steps onto, or none where it steps off the mosaic
   unfoldable pub onto : (ℕ → ℕ) → ℕ → ℕ
-  onto code g = firstBelow (allBorders I J hs ws) (λ h. eqb (borderAt I J hs ws h) (stepsOnto code g))
+  onto code g = firstBelow (allBorders I J hs ws) (λ h. eqb (borderSheetPlace I J hs ws h) (stepsOnto code g))
 
   -- the exit that is the way of border cell h, by its number in the mosaic, or none where the water ends inside or h is absent
   unfoldable pub leadsTo : (ℕ → ℕ) → ℕ → ℕ
@@ -58,7 +58,7 @@ module _ (I J : ℕ) (hs ws : ℕ → ℕ) where
 
   -- what comes in at place x of tile t: the incoming of the border cell that stands there
   abbrev pub comesAt : (ℕ → ℕ) → (ℕ → ℕ) → (ℕ → ℕ) → ℕ → ℕ → ℕ
-  comesAt way code T t x = cond (onBorder (heightOf J hs t) (widthOf J ws t) x) (comesIn way code T (borderOf J hs ws t x)) 0
+  comesAt way code T t x = cond (onBorder (heightOf J hs t) (widthOf J ws t) x) (comesIn way code T (numberInMosaic J hs ws t x)) 0
 
 -- no tile has a loop
 abbrev pub TilesFree : (I J : ℕ) (hs ws : ℕ → ℕ) → (ℕ → List ℕ) → Type 0

@@ -37,14 +37,14 @@ abbrev pub spotAt : ℕ → (ℕ → ℕ) → (ℕ → ℕ) → ℕ → ℕ → 
 spotAt J hs ws t r c = (sum (t / J) hs + r) * sheetCols J ws + (sum (t % J) ws + c)
 
 -- the place on the sheet of place x of tile t
-unfoldable pub tileAt : ℕ → ℕ → (ℕ → ℕ) → (ℕ → ℕ) → ℕ → ℕ → ℕ
-tileAt I J hs ws t x = spotAt J hs ws t (x / widthOf J ws t) (x % widthOf J ws t)
+unfoldable pub sheetPlace : ℕ → ℕ → (ℕ → ℕ) → (ℕ → ℕ) → ℕ → ℕ → ℕ
+sheetPlace I J hs ws t x = spotAt J hs ws t (x / widthOf J ws t) (x % widthOf J ws t)
 
 -- the tiles hold the sheet's codes
 pub record Cut (I J : ℕ) (hs ws : ℕ → ℕ) (sheet : List ℕ) (tiles : ℕ → List ℕ) : Type 0 where
   pub sheet-long : length sheet ≡ sheetRows I hs * sheetCols J ws
   pub tile-long : (t : ℕ) → t < I * J → length (tiles t) ≡ cellsIn J hs ws t
-  pub codes : (t x : ℕ) → t < I * J → x < cellsIn J hs ws t → codeAt (tiles t) x ≡ codeAt sheet (tileAt I J hs ws t x)
+  pub codes : (t x : ℕ) → t < I * J → x < cellsIn J hs ws t → codeAt (tiles t) x ≡ codeAt sheet (sheetPlace I J hs ws t x)
 
 -- an allowed mosaic: at least one tile row and one tile column, at most 64 tiles of allowed sides, summed rows and summed columns at most 4,096 each
 pub record Fits (I J : ℕ) (hs ws : ℕ → ℕ) : Type 0 where
@@ -79,17 +79,17 @@ allBorders I J hs ws = bordersBefore J hs ws (I * J)
 unfoldable pub borderTile : ℕ → ℕ → (ℕ → ℕ) → (ℕ → ℕ) → ℕ → ℕ
 borderTile I J hs ws g = piece (bordersIn J hs ws) (I * J) g
 
-unfoldable pub borderIn : ℕ → ℕ → (ℕ → ℕ) → (ℕ → ℕ) → ℕ → ℕ
-borderIn I J hs ws g = g - bordersBefore J hs ws (borderTile I J hs ws g)
+unfoldable pub numberInTile : ℕ → ℕ → (ℕ → ℕ) → (ℕ → ℕ) → ℕ → ℕ
+numberInTile I J hs ws g = g - bordersBefore J hs ws (borderTile I J hs ws g)
 
 -- the place of border cell b of tile t in its tile
 abbrev pub placeIn : ℕ → (ℕ → ℕ) → (ℕ → ℕ) → ℕ → ℕ → ℕ
 placeIn J hs ws t b = borderPlace (heightOf J hs t) (widthOf J ws t) b
 
 -- the place on the sheet of border cell g of the mosaic
-abbrev pub borderAt : ℕ → ℕ → (ℕ → ℕ) → (ℕ → ℕ) → ℕ → ℕ
-borderAt I J hs ws g = tileAt I J hs ws (borderTile I J hs ws g) (placeIn J hs ws (borderTile I J hs ws g) (borderIn I J hs ws g))
+abbrev pub borderSheetPlace : ℕ → ℕ → (ℕ → ℕ) → (ℕ → ℕ) → ℕ → ℕ
+borderSheetPlace I J hs ws g = sheetPlace I J hs ws (borderTile I J hs ws g) (placeIn J hs ws (borderTile I J hs ws g) (numberInTile I J hs ws g))
 
 -- the number in the mosaic of the border cell at place x of tile t
-abbrev pub borderOf : ℕ → (ℕ → ℕ) → (ℕ → ℕ) → ℕ → ℕ → ℕ
-borderOf J hs ws t x = bordersBefore J hs ws t + borderNumber (heightOf J hs t) (widthOf J ws t) x
+abbrev pub numberInMosaic : ℕ → (ℕ → ℕ) → (ℕ → ℕ) → ℕ → ℕ → ℕ
+numberInMosaic J hs ws t x = bordersBefore J hs ws t + borderNumber (heightOf J hs t) (widthOf J ws t) x

@@ -17,12 +17,12 @@ use Rattle.sheet.specs.Sheet.{countAt}
 use Rattle.listed_net.specs.Net.{toAt, NetLent, NetCounts}
 use Rattle.listed_net.proofs.Listed.{toAt-read}
 use Rattle.mosaic_read.specs.Records.{heights, widths}
-use Rattle.mosaic_read.specs.Said.{saidCount, saidWay, saidCode}
+use Rattle.mosaic_read.specs.Said.{recordOf, numberIn, saidCount, saidWay, saidCode}
 use Rattle.mosaic_step.specs.Table.{WellFormed}
 use Rattle.promise.specs.Links.UnlessSome.{refused-with, met-none}
 use Rattle.promise.specs.Reply.{Reply}
 use Rattle.promise.specs.Reply.Reply.{reply}
-use Rattle.mosaic_join.specs.Joining.{Work, works, ends, borders, feedsBy, TotalsBy, tileOf, borderOf, cleared, JoinExits}
+use Rattle.mosaic_join.specs.Joining.{Work, works, ends, borders, feedsBy, TotalsBy, cleared, JoinExits}
 use Rattle.mosaic_join.specs.Method.{Filled, poursBy, ownBy, GatherLent, Gathered}
 use Rattle.mosaic_join.proofs.Poured.{feeds-beyond, comes-given, comes-most}
 use Rattle.mosaic_join.proofs.Told.{borders-most, own-fits}
@@ -71,7 +71,7 @@ module _ (I J : ℕ) (bytes : List ℕ) (w : WellFormed I J bytes) where
     loop-is s = rw (sym (f .long), sym net-is) s
 
     pub answers-loop : {p len tile border : ℕ} {incoming : List ℕ} {work : Work} → FirstLoop (length feeds) (toAt feeds) p len
-        → tile ≡ tileOf I J bytes p → border ≡ borderOf I J bytes p → incoming ≡ replicate M 0 → work ≡ cleared I J bytes
+        → tile ≡ recordOf bytes I J p → border ≡ numberIn bytes I J p → incoming ≡ replicate M 0 → work ≡ cleared I J bytes
         → JoinExits I J bytes (ends (reply 4 (tile ∷ border ∷ len ∷ [])) incoming work)
     answers-loop {p} {len} s t b e k =
         refused-with record { place = p; len = len } (loop-is s)

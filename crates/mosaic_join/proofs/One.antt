@@ -22,7 +22,7 @@ use Rattle.promise.specs.Reply.{Reply}
 use Rattle.promise.specs.Reply.Reply.{reply}
 use Rattle.promise.proofs.One.{unless-one, unless-all-one, one-value}
 use Rattle.sheet.specs.Sheet.{LoopFound}
-use Rattle.mosaic_join.specs.Joining.{Work, JoinEnd, ends, borders, feedsBy, incomingBy, ExitLoop, Joined, JoinExits, JoinPromise, joinReply}
+use Rattle.mosaic_join.specs.Joining.{Work, JoinOutcome, ends, borders, feedsBy, incomingBy, ExitLoop, Joined, JoinExits, JoinPromise, joinReply}
 use Rattle.mosaic_join.specs.declared.JoinReply.{JoinReply}
 use Rattle.mosaic_join.specs.declared.JoinReply.the-variants.{Done, Layout, Record, Length, Loop}
 

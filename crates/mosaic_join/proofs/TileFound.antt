@@ -4,13 +4,14 @@ use mathlib.Core.List.{List}
 use mathlib.Core.Path.{_≡_, sym, ap, _∙_}
 use Prim.Native.Nat.{ℕ, _+_, _-_, _*_, _<_, _≤_}
 use native.Mathlib.Omega.{arith}
-use Rattle.mosaic.specs.Layout.{bordersIn, borderTile, borderIn}
+use Rattle.mosaic.specs.Layout.{bordersIn, borderTile, numberInTile}
 use Rattle.mosaic.proofs.Borders.{tile-in, number-is, number-in}
 use Rattle.mosaic.proofs.Pieces.{piece-unique}
 use Rattle.mosaic_read.specs.Records.{heights, widths}
 use Rattle.mosaic_step.specs.Table.{WellFormed, Table, firstIn}
 use Rattle.mosaic_step.proofs.Known.{borders-are}
-use Rattle.mosaic_join.specs.Joining.{borders, tileOf, borderOf}
+use Rattle.mosaic_read.specs.Said.{recordOf, numberIn}
+use Rattle.mosaic_join.specs.Joining.{borders}
 use Rattle.mosaic_join.specs.Method.{firstOf}
 use Rattle.mosaic_join.proofs.Told.{first-next}
 
@@ -20,22 +21,22 @@ module _ (I J : ℕ) (bytes : List ℕ) (w : WellFormed I J bytes) (g : ℕ) (l 
   some-tile = omega (arith, tile-in I J (heights bytes J) (widths bytes) g l)
 
   -- it is the last whose first border number is not above g
-  pub tile-found : (t : ℕ) → t < I * J → firstOf I J bytes t ≤ g → g < firstOf I J bytes (t + 1) → t ≡ tileOf I J bytes g
+  pub tile-found : (t : ℕ) → t < I * J → firstOf I J bytes t ≤ g → g < firstOf I J bytes (t + 1) → t ≡ recordOf bytes I J g
   tile-found t lt from until =
-      piece-unique (bordersIn J (heights bytes J) (widths bytes)) t (tileOf I J bytes g) g
+      piece-unique (bordersIn J (heights bytes J) (widths bytes)) t (recordOf bytes I J g) g
       (from, omega (arith, first-next I J bytes w t lt, borders-are w t lt))
       (omega (arith, number-is I J (heights bytes J) (widths bytes) g l), omega (arith, number-is I J (heights bytes J) (widths bytes) g l, number-in I J (heights bytes J) (widths bytes) g l))
 
   module _ (table : List ℕ) (s : Table I J bytes table) where
     -- it is there
-    pub tile-there : {t : ℕ} → t ≡ tileOf I J bytes g → t < I * J
+    pub tile-there : {t : ℕ} → t ≡ recordOf bytes I J g → t < I * J
     tile-there e = omega (arith, tile-in I J (heights bytes J) (widths bytes) g l)
 
     -- and its first border number is not above g
-    pub first-le : {t first : ℕ} → t ≡ tileOf I J bytes g → first ≡ firstIn table t → first ≤ g
+    pub first-le : {t first : ℕ} → t ≡ recordOf bytes I J g → first ≡ firstIn table t → first ≤ g
     first-le {t} e f = omega (arith, f, s .firsts t (tile-there e), ap (firstOf I J bytes) e, number-is I J (heights bytes J) (widths bytes) g l)
 
     -- what is left is the number in the tile
-    pub number-left : {t first : ℕ} → t ≡ tileOf I J bytes g → first ≡ firstIn table t → g - first ≡ borderOf I J bytes g
-    unfolding borderIn
+    pub number-left : {t first : ℕ} → t ≡ recordOf bytes I J g → first ≡ firstIn table t → g - first ≡ numberIn bytes I J g
+    unfolding numberInTile
     number-left {t} {first} e f = ap (λ (x : ℕ). g - x) (f ∙ s .firsts t (tile-there e) ∙ ap (firstOf I J bytes) e)

@@ -12,7 +12,7 @@ use Rattle.flow.proofs.Sum.{sum-ext, sum-suc}
 use Rattle.tile.specs.Border.{borderCells}
 use Rattle.tile.proofs.Cells.{cells-most}
 use Rattle.mosaic.specs.Join.{exitAt, own}
-use Rattle.mosaic.specs.Layout.{bordersIn, bordersBefore, borderTile, borderIn}
+use Rattle.mosaic.specs.Layout.{bordersIn, bordersBefore, borderTile, numberInTile}
 use Rattle.mosaic.proofs.Borders.{border-below, border-tile, border-in, each-border}
 use Rattle.mosaic.proofs.Pieces.{starts-rise, sum-most}
 use Rattle.mosaic_read.specs.Records.{startOf, rowsOf, colsOf, bordersOf, countIn, wayIn, codeIn, heights, widths, endAt, WayOk}

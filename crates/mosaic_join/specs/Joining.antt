@@ -7,10 +7,10 @@ use Prim.Native.Nat.{ℕ, _*_, _<_}
 use lib.ListN.{length, replicate}
 use Rattle.flow.specs.Net.{FirstLoop}
 use Rattle.mosaic.specs.Join.{feeds, Totals, comesIn}
-use Rattle.mosaic.specs.Layout.{allBorders, borderTile, borderIn}
+use Rattle.mosaic.specs.Layout.{allBorders}
 use Rattle.mosaic_read.specs.Read.{MosaicShape, UnlessRecords}
 use Rattle.mosaic_read.specs.Records.{heights, widths}
-use Rattle.mosaic_read.specs.Said.{saidCount, saidWay, saidCode}
+use Rattle.mosaic_read.specs.Said.{recordOf, numberIn, saidCount, saidWay, saidCode}
 use Rattle.promise.specs.Links.{Unless, UnlessSome, _then_}
 use Rattle.promise.specs.Reply.{Reply}
 use Rattle.promise.specs.Reply.Reply.{reply}
@@ -38,12 +38,12 @@ abbrev pub works : List ℕ → List ℕ → List ℕ → List ℕ → List ℕ 
 works a b c d e = record { work1 = a; work2 = b; work3 = c; work4 = d; work5 = e }
 
 -- an outcome: what is said, and what the incoming and the work buffers then hold
-pub record JoinEnd : Type 0 where
+pub record JoinOutcome : Type 0 where
   pub said : Reply
   pub incoming : List ℕ
   pub work : Work
 
-abbrev pub ends : Reply → List ℕ → Work → JoinEnd
+abbrev pub ends : Reply → List ℕ → Work → JoinOutcome
 ends said incoming work = record { said = said; incoming = incoming; work = work }
 
 -- ---- what the records say
@@ -69,13 +69,6 @@ module _ (I J : ℕ) (bytes : List ℕ) where
   abbrev pub ExitLoop : LoopFound → Type 0
   ExitLoop v = FirstLoop borders feedsBy (v .place) (v .len)
 
-  -- its tile, and its border number there
-  abbrev pub tileOf : ℕ → ℕ
-  tileOf g = borderTile I J (heights bytes J) (widths bytes) g
-
-  abbrev pub borderOf : ℕ → ℕ
-  borderOf g = borderIn I J (heights bytes J) (widths bytes) g
-
   -- ---- the promise
 
   -- incoming and four work buffers have one number for each border cell of the mosaic, the fifth has 128
@@ -92,7 +85,7 @@ module _ (I J : ℕ) (bytes : List ℕ) where
   cleared = works (replicate borders 0) (replicate borders 0) (replicate borders 0) (replicate borders 0) (replicate 128 0)
 
   -- done: each border cell's incoming is that of the exits' totals, and the work buffers hold 0
-  pub record Joined (e : JoinEnd) : Type 0 where
+  pub record Joined (e : JoinOutcome) : Type 0 where
     pub totals : ℕ → ℕ
     pub solve : TotalsBy totals
     pub long : length (e .incoming) ≡ borders
@@ -101,13 +94,13 @@ module _ (I J : ℕ) (bytes : List ℕ) where
     pub said-is : e .said ≡ reply 0 []
 
   -- of well-formed records and buffers whose lengths fit: 4, done. After 4 incoming and work buffers hold 0 throughout
-  abbrev pub JoinExits : JoinEnd → Type 0
+  abbrev pub JoinExits : JoinOutcome → Type 0
   JoinExits =
-      UnlessSome ExitLoop (λ v. ends (reply 4 (tileOf (v .place) ∷ borderOf (v .place) ∷ v .len ∷ [])) (replicate borders 0) cleared) then
+      UnlessSome ExitLoop (λ v. ends (reply 4 (recordOf bytes I J (v .place) ∷ numberIn bytes I J (v .place) ∷ v .len ∷ [])) (replicate borders 0) cleared) then
       Joined
 
 -- joining: 9 with 0, records with 8 or 9, 2, 4, done. After every refusal but 4 incoming and work buffers are as they were lent
-abbrev pub JoinPromise : (I J : ℕ) (bytes incoming : List ℕ) (work : Work) → JoinEnd → Type 0
+abbrev pub JoinPromise : (I J : ℕ) (bytes incoming : List ℕ) (work : Work) → JoinOutcome → Type 0
 JoinPromise I J bytes incoming work =
     Unless (MosaicShape I J) (ends (reply 9 (0 ∷ [])) incoming work) then
     UnlessRecords I J bytes (λ r. ends r incoming work) then

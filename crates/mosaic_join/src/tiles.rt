@@ -2,7 +2,8 @@
 ghost use mathlib.Core.Path.{_≡_};
 ghost use Prim.Native.Nat.{_<_};
 ghost use Rattle.mosaic_step.specs.Table.{WellFormed, Table};
-ghost use Rattle.mosaic_join.specs.Joining.{borders, tileOf};
+ghost use Rattle.mosaic_join.specs.Joining.{borders};
+ghost use Rattle.mosaic_read.specs.Said.{recordOf};
 use mosaic_step::table::first_border;
 
 // The tile of border cell g: the last whose first border number is not above it.
@@ -10,7 +11,7 @@ pub fn tile_of(tile_rows: usize, tile_cols: usize, records: &[u8], table: &[u32]
     requires { ⌜ WellFormed «tile_rows» «tile_cols» (now records) ⌝ }
     requires { ⌜ Table «tile_rows» «tile_cols» (now records) (now table) ⌝ }
     requires { ⌜ g < borders «tile_rows» «tile_cols» (now records) ⌝ }
-    ensures { λ t. ⌜ t ≡ tileOf «tile_rows» «tile_cols» (now (records .entry)) g ⌝ }
+    ensures { λ t. ⌜ t ≡ recordOf (now (records .entry)) «tile_rows» «tile_cols» g ⌝ }
 {
     let tiles = tile_rows * tile_cols;
     let mut t = 0;

@@ -16,7 +16,7 @@ use Rattle.promise.specs.Reply.Reply.{reply}
 use Rattle.promise.proofs.Apart.{values-same}
 use Rattle.mosaic_read.specs.Records.{startOf, bordersOf, PartOk, RecordOk}
 use Rattle.mosaic_read.specs.Read.{faultAt, ReadPromise}
-use Rattle.mosaic_read.specs.Method.{RecordPromise}
+use Rattle.mosaic_read.specs.Method.{ReadOnePromise}
 use Rattle.mosaic_read.proofs.OneRecord.{record-parts, parts-record}
 
 -- the first k records are well formed
@@ -65,13 +65,13 @@ module _ (bytes : List ℕ) (J : ℕ) where
   fault-number t (suc (suc (suc more))) e = omega arith
 
   -- a fault of record t is the first fault
-  pub read-fault : (I t : ℕ) {x : Reply} → t < I * J → AllOk bytes J t → (numberOf x ≡ 0 → ⊥) → RecordPromise bytes J t x → ReadPromise I J bytes x
+  pub read-fault : (I t : ℕ) {x : Reply} → t < I * J → AllOk bytes J t → (numberOf x ≡ 0 → ⊥) → ReadOnePromise bytes J t x → ReadPromise I J bytes x
   read-fault I t l ok n (refused-at p f e) =
       refused-at (4 * t + p) (fault-first (I * J) t p l ok f) (e ∙ sym (ap₂ (faultAt bytes) (record-of t p (f .inside)) (part-of t p (f .inside))))
   read-fault I t l ok n (met-all a e) = absurd (n (ap numberOf e))
 
   -- record t is well formed
-  pub read-next : (t B : ℕ) → RecordPromise bytes J t (reply 0 (B ∷ [])) → RecordOk bytes J t × (B ≡ bordersOf bytes t)
+  pub read-next : (t B : ℕ) → ReadOnePromise bytes J t (reply 0 (B ∷ [])) → RecordOk bytes J t × (B ≡ bordersOf bytes t)
   read-next t B (refused-at p f e) = absurd (fault-number t p (sym (ap numberOf e)))
   read-next t B (met-all a e) = (parts-record a, ap (λ l. getD l 0 0) (values-same e))
 

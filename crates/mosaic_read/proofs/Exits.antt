@@ -11,7 +11,7 @@ use borrow.Author.Tests.{eqb-true, eq-eqb, ne-eqb, not-false}
 use Rattle.sheet.specs.Compass.{isArrow, stepOf}
 use Rattle.sheet.specs.Sheet.{stepFrom}
 use Rattle.tile.proofs.Cells.{cells-most}
-use Rattle.mosaic.specs.Layout.{heightOf, widthOf, cellsIn, bordersIn, bordersBefore, allBorders, borderTile, borderIn, placeIn}
+use Rattle.mosaic.specs.Layout.{heightOf, widthOf, cellsIn, bordersIn, bordersBefore, allBorders, borderTile, numberInTile, placeIn}
 use Rattle.mosaic.specs.Join.{isLand, exitAt, leadsTo}
 use Rattle.mosaic.proofs.Borders.{border-below, border-tile, border-in, tile-in, number-in}
 use Rattle.mosaic_read.specs.Records.{startOf, rowsOf, colsOf, bordersOf, wayIn, codeIn, heights, widths, Leads}
@@ -27,7 +27,7 @@ module _ (bytes : List ℕ) (I J : ℕ) (ok : AllOk bytes J (I * J)) (g : ℕ) (
   t = borderTile I J (heights bytes J) (widths bytes) g
 
   abbrev b : ℕ
-  b = borderIn I J (heights bytes J) (widths bytes) g
+  b = numberInTile I J (heights bytes J) (widths bytes) g
 
   lt : t < I * J
   lt = tile-in I J (heights bytes J) (widths bytes) g l
@@ -77,8 +77,8 @@ module _ (bytes : List ℕ) (I J : ℕ) (ok : AllOk bytes J (I * J)) (g : ℕ) (
     pub leads-tile : borderTile I J (heights bytes J) (widths bytes) e ≡ t
     leads-tile = ap (borderTile I J (heights bytes J) (widths bytes)) e-is ∙ border-tile I J (heights bytes J) (widths bytes) t (wayIn bytes t b) lt k-in
 
-    leads-number : borderIn I J (heights bytes J) (widths bytes) e ≡ wayIn bytes t b
-    leads-number = ap (borderIn I J (heights bytes J) (widths bytes)) e-is ∙ border-in I J (heights bytes J) (widths bytes) t (wayIn bytes t b) lt k-in
+    leads-number : numberInTile I J (heights bytes J) (widths bytes) e ≡ wayIn bytes t b
+    leads-number = ap (numberInTile I J (heights bytes J) (widths bytes)) e-is ∙ border-in I J (heights bytes J) (widths bytes) t (wayIn bytes t b) lt k-in
 
     pub leads-way : saidWay bytes I J e ≡ saidWay bytes I J g
     unfolding saidWay

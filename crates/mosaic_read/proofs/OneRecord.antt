@@ -12,7 +12,7 @@ use Rattle.sheet.specs.Shape.{TileShape}
 use Rattle.tile.specs.Border.{borderCells}
 use Rattle.tile.proofs.Cells.{cells-most}
 use Rattle.mosaic_read.specs.Records.{startOf, rowsAt, colsAt, rowsOf, colsOf, bordersOf, SidesOk, PlacedOk, CountsOk, WaysOk, PartOk, RecordOk}
-use Rattle.mosaic_read.specs.Method.{Whole, TileOf, Reached, RecordPromise}
+use Rattle.mosaic_read.specs.Method.{Whole, TileOf, Reached, ReadOnePromise}
 use Rattle.mosaic_read.proofs.Starts.{start-next, borders-read}
 
 -- a tile of allowed sides has few border cells and few cells
@@ -55,11 +55,11 @@ module _ {bytes : List ℕ} {J t : ℕ} where
     first1 : SidesOk bytes o → (q : ℕ) → q < 1 → PartOk bytes J t q
     first1 s = below-more (PartOk bytes J t) 0 first0 (sides-there s)
 
-    pub sides-fault : (SidesOk bytes o → ⊥) → RecordPromise bytes J t (reply 8 (o ∷ []))
+    pub sides-fault : (SidesOk bytes o → ⊥) → ReadOnePromise bytes J t (reply 8 (o ∷ []))
     sides-fault n =
         refused-at 0 record { inside = omega arith; here = λ h. n (subst (SidesOk bytes) (sym (r .start)) h); before = first0 } (ap (λ (x : ℕ). reply 8 (x ∷ [])) (r .start))
 
-    pub placed-fault : SidesOk bytes o → (PlacedOk bytes J t → ⊥) → RecordPromise bytes J t (reply 9 (o ∷ []))
+    pub placed-fault : SidesOk bytes o → (PlacedOk bytes J t → ⊥) → ReadOnePromise bytes J t (reply 9 (o ∷ []))
     placed-fault s n = refused-at 1 record { inside = omega arith; here = n; before = first1 s } (ap (λ (x : ℕ). reply 9 (x ∷ [])) (r .start))
 
     module _ (s : SidesOk bytes o) (p : PlacedOk bytes J t) {rows cols B : ℕ} (rows-is : rows ≡ rowsAt bytes o) (cols-is : cols ≡ colsAt bytes o) (borders-is : B ≡ borderCells rows cols) where
@@ -76,7 +76,7 @@ module _ {bytes : List ℕ} {J t : ℕ} where
           same4 P (sym (r .start)) (sym (rows-is ∙ ap (rowsAt bytes) (r .start))) (sym (cols-is ∙ ap (colsAt bytes) (r .start)))
           (sym (borders-read bytes t (r .start) rows-is cols-is borders-is)) x
 
-      pub counts-fault : (CountsOk bytes o rows cols B → ⊥) → RecordPromise bytes J t (reply 8 ((o + 11) ∷ []))
+      pub counts-fault : (CountsOk bytes o rows cols B → ⊥) → ReadOnePromise bytes J t (reply 8 ((o + 11) ∷ []))
       counts-fault n =
           refused-at 2 record { inside = omega arith; here = λ h. n (back (λ a b c d. CountsOk bytes a b c d) h); before = first2 }
           (ap (λ (x : ℕ). reply 8 ((x + 11) ∷ [])) (r .start))
@@ -85,12 +85,12 @@ module _ {bytes : List ℕ} {J t : ℕ} where
         first3 : (q : ℕ) → q < 3 → PartOk bytes J t q
         first3 = below-more (PartOk bytes J t) 2 first2 (there (λ a b c d. CountsOk bytes a b c d) k)
 
-        pub ways-fault : (WaysOk bytes o rows cols B → ⊥) → RecordPromise bytes J t (reply 8 ((o + 14 + 4 * B) ∷ []))
+        pub ways-fault : (WaysOk bytes o rows cols B → ⊥) → ReadOnePromise bytes J t (reply 8 ((o + 14 + 4 * B) ∷ []))
         ways-fault n =
             refused-at 3 record { inside = omega arith; here = λ h. n (back (λ a b c d. WaysOk bytes a b c d) h); before = first3 }
             (there (λ a b c d. reply 8 ((o + 14 + 4 * B) ∷ []) ≡ reply 8 ((a + 14 + 4 * d) ∷ [])) refl)
 
-        pub record-good : WaysOk bytes o rows cols B → RecordPromise bytes J t (reply 0 (B ∷ []))
+        pub record-good : WaysOk bytes o rows cols B → ReadOnePromise bytes J t (reply 0 (B ∷ []))
         record-good w =
             met-all (below-more (PartOk bytes J t) 3 first3 (there (λ a b c d. WaysOk bytes a b c d) w))
             (ap (λ (x : ℕ). reply 0 (x ∷ [])) (borders-read bytes t (r .start) rows-is cols-is borders-is))

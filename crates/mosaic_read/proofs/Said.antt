@@ -6,7 +6,7 @@ use mathlib.Core.Path.{_≡_, ap₂}
 use Prim.Native.Nat.{ℕ, _+_, _*_, _≤_, _<_}
 use native.Mathlib.Omega.{arith}
 use Rattle.flow.proofs.Sum.{same}
-use Rattle.mosaic.specs.Layout.{bordersIn, bordersBefore, borderTile, borderIn}
+use Rattle.mosaic.specs.Layout.{bordersIn, bordersBefore, borderTile, numberInTile}
 use Rattle.mosaic.proofs.Borders.{border-tile, border-in}
 use Rattle.mosaic_read.specs.Records.{startOf, rowsOf, colsOf, bordersOf, countIn, wayIn, codeIn, heights, widths, Leads, RecordOk}
 use Rattle.mosaic_read.specs.Said.{saidCount, saidWay, saidCode}
@@ -42,7 +42,7 @@ module _ (bytes : List ℕ) (I J t b : ℕ) (lt : t < I * J) (lb : b < bordersIn
   tile-is : borderTile I J (heights bytes J) (widths bytes) (bordersBefore J (heights bytes J) (widths bytes) t + b) ≡ t
   tile-is = border-tile I J (heights bytes J) (widths bytes) t b lt lb
 
-  in-is : borderIn I J (heights bytes J) (widths bytes) (bordersBefore J (heights bytes J) (widths bytes) t + b) ≡ b
+  in-is : numberInTile I J (heights bytes J) (widths bytes) (bordersBefore J (heights bytes J) (widths bytes) t + b) ≡ b
   in-is = border-in I J (heights bytes J) (widths bytes) t b lt lb
 
   pub said-count : saidCount bytes I J (bordersBefore J (heights bytes J) (widths bytes) t + b) ≡ countIn bytes t b

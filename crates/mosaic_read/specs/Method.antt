@@ -46,5 +46,5 @@ pub record Reached (bytes : List ℕ) (J t o above left : ℕ) : Type 0 where
   pub left-most : left ≤ 4096
 
 -- what reading record t answers: the number of its border cells, or its first fault
-abbrev pub RecordPromise : (bytes : List ℕ) (J t : ℕ) → Reply → Type 0
-RecordPromise bytes J t = UnlessAll 4 (PartOk bytes J t) (faultAt bytes t) then Exactly (reply 0 (bordersOf bytes t ∷ []))
+abbrev pub ReadOnePromise : (bytes : List ℕ) (J t : ℕ) → Reply → Type 0
+ReadOnePromise bytes J t = UnlessAll 4 (PartOk bytes J t) (faultAt bytes t) then Exactly (reply 0 (bordersOf bytes t ∷ []))

@@ -3,7 +3,7 @@
 -- Assumes nothing.
 use mathlib.Core.List.{List}
 use Prim.Native.Nat.{ℕ}
-use Rattle.mosaic.specs.Layout.{borderTile, borderIn}
+use Rattle.mosaic.specs.Layout.{borderTile, numberInTile}
 use Rattle.mosaic_read.specs.Records.{heights, widths, countIn, wayIn, codeIn}
 
 module _ (bytes : List ℕ) (I J : ℕ) where
@@ -12,7 +12,7 @@ module _ (bytes : List ℕ) (I J : ℕ) where
   recordOf g = borderTile I J (heights bytes J) (widths bytes) g
 
   abbrev pub numberIn : ℕ → ℕ
-  numberIn g = borderIn I J (heights bytes J) (widths bytes) g
+  numberIn g = numberInTile I J (heights bytes J) (widths bytes) g
 
   unfoldable pub saidCount : ℕ → ℕ
   saidCount g = countIn bytes (recordOf g) (numberIn g)

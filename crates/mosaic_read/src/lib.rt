@@ -3,7 +3,7 @@ pub mod bytes;
 pub mod parts;
 
 ghost use Prim.Native.Nat.{_*_, _<_};
-ghost use Rattle.mosaic_read.specs.Method.{Reached, RecordPromise};
+ghost use Rattle.mosaic_read.specs.Method.{Reached, ReadOnePromise};
 ghost use Rattle.mosaic_read.specs.Read.{MosaicShape, ReadPromise, readReply};
 use crate::bytes::two_at;
 use crate::parts::counts_ok;
@@ -29,7 +29,7 @@ fn read_record(
     left: usize,
 ) -> ReadReply
     requires { ⌜ Reached (now records) «tile_cols» t o above left ⌝ }
-    ensures { λ r. ⌜ RecordPromise (now (records .entry)) «tile_cols» t (readReply r) ⌝ }
+    ensures { λ r. ⌜ ReadOnePromise (now (records .entry)) «tile_cols» t (readReply r) ⌝ }
 {
     if !sides_ok(records, o) {
         return ReadReply::Record(o);

@@ -10,7 +10,7 @@ use Rattle.sheet.specs.Compass.{isArrow, stepOf}
 use Rattle.sheet.specs.Sheet.{stepFrom}
 use Rattle.sheet.proofs.Places.{place-lt, row-of, col-of}
 use Rattle.tile.specs.Border.{edgeAt, onBorder}
-use Rattle.mosaic.specs.Layout.{heightOf, widthOf, cellsIn, bordersIn, bordersBefore, allBorders, placeIn, borderOf}
+use Rattle.mosaic.specs.Layout.{heightOf, widthOf, cellsIn, bordersIn, bordersBefore, allBorders, placeIn, numberInMosaic}
 use Rattle.mosaic.specs.Join.{onto}
 use Rattle.mosaic.proofs.Across.{onto-neighbour, onto-north, onto-south, onto-west, onto-east}
 use Rattle.mosaic.proofs.Grid.{spot-place}
@@ -26,7 +26,7 @@ pub record Found (I J : ℕ) (hs ws : ℕ → ℕ) (sought s r c : ℕ) : Type 0
   pub row-in : r < heightOf J hs s
   pub col-in : c < widthOf J ws s
   pub edge : edgeAt (heightOf J hs s) (widthOf J ws s) r c ≡ true
-  pub is : sought ≡ borderOf J hs ws s (r * widthOf J ws s + c)
+  pub is : sought ≡ numberInMosaic J hs ws s (r * widthOf J ws s + c)
 
 edge-of : (rows cols r c : ℕ) → c < cols → onBorder rows cols (r * cols + c) ≡ true → edgeAt rows cols r c ≡ true
 unfolding onBorder

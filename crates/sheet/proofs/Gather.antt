@@ -14,7 +14,7 @@ use Rattle.flow.specs.Net.{on, sum, number}
 use Rattle.flow.proofs.Sum.{test, sum-next, on-true, on-false, sum-ones, sum-mono, sum-at-least}
 use Rattle.flow.proofs.Bound.{on-le}
 use Rattle.flow.proofs.Walk.{below}
-use Rattle.sheet.specs.Sheet.{codeAt, CodeOk, landAt, destOf, outletAt}
+use Rattle.sheet.specs.Sheet.{codeAt, CodeOk}
 use Rattle.sheet.specs.Compass.{isCode}
 use Rattle.sheet.specs.Leaves.{badAt}
 use Rattle.sheet.specs.Totals.{greatestBelow}
@@ -37,19 +37,6 @@ number-le n passes =
 pub greatest-next : (n : ℕ) (f : ℕ → ℕ) → greatestBelow (n + 1) f ≡ max (greatestBelow n f) (f n)
 unfolding greatestBelow
 greatest-next n f = rw add-one
-
--- an outlet, for each way through the code that tells it
-module _ (rows cols : ℕ) (g : List ℕ) (p : ℕ) where
-  pub outlet-absent : landAt g p ≡ false → false ≡ outletAt rows cols g p
-  unfolding outletAt
-  outlet-absent e = rw e
-
-  pub outlet-land : {q : ℕ} → landAt g p ≡ true → q ≡ destOf rows cols g p → leb (rows * cols) q ≡ outletAt rows cols g p
-  unfolding outletAt
-  outlet-land {q} e d = rw (e, ← d) (elim (below q (rows * cols)) [
-    | inl l ↦ rw (lt-ltb q (rows * cols) l, lt-leb (rows * cols) q l)
-    | inr l ↦ rw (le-ltb q (rows * cols) l, le-leb (rows * cols) q l)
-  ])
 
 -- no place passes a test that none passes
 pub number-none : (n : ℕ) (passes : ℕ → Bool) → number n passes ≡ 0 → (p : ℕ) → p < n → passes p ≡ false

@@ -1,13 +1,10 @@
 pub mod Table
-pub mod Way
+pub mod Meaning
 pub mod Places
 pub mod Spots
 pub mod Signed
 pub mod Dest
 pub mod DestAt
-pub mod Bridge
-pub mod Inner
-pub mod Weigh
 pub mod Gather
 pub mod Passes
 pub mod Given

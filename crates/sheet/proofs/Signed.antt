@@ -11,7 +11,7 @@ use mir.Val.{toZ, ofZ}
 use mir.Facts.{toZ-pos}
 use borrow.Author.Tests.{le-ltb, le-leb}
 use Rattle.sheet.specs.Leaves.{within, small, lift}
-use Rattle.sheet.specs.Sheet.{inside, numberOf, stepFrom}
+use Rattle.sheet.specs.Sheet.{inside, coordinate, stepFrom}
 use Rattle.sheet.specs.Compass.{stepAt, stepOf, lineOf, isArrow}
 use Rattle.sheet.specs.declared.compass.Step.{Step}
 use Rattle.sheet.proofs.Table.{below8, arrow-line}
@@ -55,13 +55,13 @@ inside-lift most x d t =
     small-cases (λ d. inside most (pos x +ℤ d) ≡ within (x + lift d) most)
     (inside-less most x) (within-suc (x + 0) (x + 1) most (omega arith)) (within-suc (x + 1) (x + 2) most (omega arith)) d t
 
-number-less : (x : ℕ) → numberOf (pos x +ℤ negsuc 0) ≡ x + 0 - 1
+number-less : (x : ℕ) → coordinate (pos x +ℤ negsuc 0) ≡ x + 0 - 1
 number-less zero = refl
 number-less (suc x) = simp (le-ltb (suc x) 1 (omega arith)) (omega arith)
 
-pub number-lift : (x : ℕ) (d : ℤ) → T (small d) → numberOf (pos x +ℤ d) ≡ x + lift d - 1
+pub number-lift : (x : ℕ) (d : ℤ) → T (small d) → coordinate (pos x +ℤ d) ≡ x + lift d - 1
 number-lift x d t =
-    small-cases (λ d. numberOf (pos x +ℤ d) ≡ x + lift d - 1) (number-less x) (omega arith) (omega arith) d t
+    small-cases (λ d. coordinate (pos x +ℤ d) ≡ x + lift d - 1) (number-less x) (omega arith) (omega arith) d t
 
 -- the steps of the table are small
 pub row-small : (k : ℕ) → k < 8 → T (small (stepAt k .1))

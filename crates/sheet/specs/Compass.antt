@@ -7,8 +7,8 @@ use lib.Dec.{eqb, ltb}
 use lib.IntN.{ℤ, pos, negsuc}
 use lib.ListN.{getD}
 use Rattle.sheet.specs.declared.compass.Step.{Step}
-use Rattle.sheet.specs.declared.compass.Way.{Way}
-use Rattle.sheet.specs.declared.compass.Way.the-variants.{Arrow, Absent, Bad}
+use Rattle.sheet.specs.declared.compass.Meaning.{Meaning}
+use Rattle.sheet.specs.declared.compass.Meaning.the-variants.{Arrow, Absent, Bad}
 
 -- the numbers of the table, with their signs
 abbrev o : ℤ
@@ -67,5 +67,5 @@ unfoldable pub stepOf : ℕ → Step
 stepOf x = stepAt (lineOf x)
 
 -- what a code means
-unfoldable pub wayOf : ℕ → Way
-wayOf x = cond (isArrow x) (Arrow (stepOf x)) (cond (isAbsent x) Absent Bad)
+unfoldable pub meaningOf : ℕ → Meaning
+meaningOf x = cond (isArrow x) (Arrow (stepOf x)) (cond (isAbsent x) Absent Bad)

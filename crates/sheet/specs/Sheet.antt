@@ -34,13 +34,13 @@ inside most (pos n) = ltb n most
 inside most (negsuc n) = false
 
 -- the number of a row or a column that is inside
-abbrev pub numberOf : ℤ → ℕ
-numberOf (pos n) = n
-numberOf (negsuc n) = 0
+abbrev pub coordinate : ℤ → ℕ
+coordinate (pos n) = n
+coordinate (negsuc n) = 0
 
 -- the place of a row and a column, or rows × cols, which is no place, where they lie off the sheet
 abbrev pub placeOf : ℕ → ℕ → ℤ → ℤ → ℕ
-placeOf rows cols r c = cond (inside rows r) (cond (inside cols c) (numberOf r * cols + numberOf c) (rows * cols)) (rows * cols)
+placeOf rows cols r c = cond (inside rows r) (cond (inside cols c) (coordinate r * cols + coordinate c) (rows * cols)) (rows * cols)
 
 -- the place one step from place p, or rows × cols where the step leaves the sheet
 unfoldable pub stepFrom : ℕ → ℕ → Step → ℕ → ℕ
@@ -91,8 +91,8 @@ abbrev pub SheetNoLoop : ℕ → ℕ → List ℕ → Type 0
 SheetNoLoop rows cols g = NoLoop (rows * cols) (destOf rows cols g)
 
 -- p is the smallest place on any loop, and that loop has `len` cells
-abbrev pub SheetLoop : ℕ → ℕ → List ℕ → ℕ → ℕ → Type 0
-SheetLoop rows cols g p len = FirstLoop (rows * cols) (destOf rows cols g) p len
+abbrev pub FirstSheetLoop : ℕ → ℕ → List ℕ → ℕ → ℕ → Type 0
+FirstSheetLoop rows cols g p len = FirstLoop (rows * cols) (destOf rows cols g) p len
 
 -- what refusal 4 returns: a place, and a number of cells
 pub record LoopFound : Type 0 where
@@ -100,7 +100,7 @@ pub record LoopFound : Type 0 where
   pub len : ℕ
 
 abbrev pub LoopIn : ℕ → ℕ → List ℕ → LoopFound → Type 0
-LoopIn rows cols g v = SheetLoop rows cols g (v .place) (v .len)
+LoopIn rows cols g v = FirstSheetLoop rows cols g (v .place) (v .len)
 
 -- ---- buffers
 

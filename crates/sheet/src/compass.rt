@@ -1,12 +1,12 @@
 // The compass table, and what a code means.
 ghost use mathlib.Core.Path.{_≡_};
-ghost use Rattle.sheet.specs.Compass.{wayOf, isArrow, isCode};
+ghost use Rattle.sheet.specs.Compass.{meaningOf, isArrow, isCode};
 
 // A code, and its step in rows and columns.
 pub struct Step(pub u8, pub i32, pub i32);
 
 // What a code means.
-pub enum Way {
+pub enum Meaning {
     Arrow(Step),
     Absent,
     Bad,
@@ -25,21 +25,21 @@ const STEPS: [Step; 8] = [
 ];
 
 // What a code means, with its step where it is an arrow. The match comes first so that each use of the table has a number written out.
-pub fn way_of(code: u8) -> Way
-    ensures { λ r. ⌜ r ≡ wayOf code ⌝ }
+pub fn meaning_of(code: u8) -> Meaning
+    ensures { λ r. ⌜ r ≡ meaningOf code ⌝ }
 {
     match code {
-        1 => Way::Arrow(STEPS[0]),
-        2 => Way::Arrow(STEPS[1]),
-        4 => Way::Arrow(STEPS[2]),
-        8 => Way::Arrow(STEPS[3]),
-        16 => Way::Arrow(STEPS[4]),
-        32 => Way::Arrow(STEPS[5]),
-        64 => Way::Arrow(STEPS[6]),
-        128 => Way::Arrow(STEPS[7]),
-        0 => Way::Absent,
-        255 => Way::Absent,
-        _ => Way::Bad,
+        1 => Meaning::Arrow(STEPS[0]),
+        2 => Meaning::Arrow(STEPS[1]),
+        4 => Meaning::Arrow(STEPS[2]),
+        8 => Meaning::Arrow(STEPS[3]),
+        16 => Meaning::Arrow(STEPS[4]),
+        32 => Meaning::Arrow(STEPS[5]),
+        64 => Meaning::Arrow(STEPS[6]),
+        128 => Meaning::Arrow(STEPS[7]),
+        0 => Meaning::Absent,
+        255 => Meaning::Absent,
+        _ => Meaning::Bad,
     }
 }
 
@@ -47,10 +47,10 @@ pub fn way_of(code: u8) -> Way
 pub fn is_arrow(code: u8) -> bool
     ensures { λ r. ⌜ r ≡ isArrow code ⌝ }
 {
-    match way_of(code) {
-        Way::Arrow(_) => true,
-        Way::Absent => false,
-        Way::Bad => false,
+    match meaning_of(code) {
+        Meaning::Arrow(_) => true,
+        Meaning::Absent => false,
+        Meaning::Bad => false,
     }
 }
 

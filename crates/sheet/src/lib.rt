@@ -1,5 +1,4 @@
-// Sheets as paper 01 describes them: shapes, the compass table, where water goes, the look-around at a cell, and what is gathered over a sheet.
-pub mod around;
+// Sheets as paper 01 describes them: shapes, the compass table, where water goes, and what is gathered over a sheet.
 pub mod compass;
 pub mod shape;
 pub mod step;

@@ -7,9 +7,9 @@ ghost use lib.ListN.{length};
 ghost use Rattle.sheet.specs.Compass.{isArrow, stepOf};
 ghost use Rattle.sheet.specs.Leaves.{Place, Cell, SpotOf, small, lift};
 ghost use Rattle.sheet.specs.Sheet.{stepFrom, destOf};
-use crate::compass::Way;
+use crate::compass::Meaning;
 use crate::compass::is_arrow;
-use crate::compass::way_of;
+use crate::compass::meaning_of;
 use crate::shape::is_within;
 
 // A row and a column. (rows, 0) stands for no cell: its place is rows * cols.
@@ -31,10 +31,10 @@ pub fn row_after(x: usize, code: u8) -> usize
     requires { ⌜ (x < 4096) × (isArrow code ≡ true) ⌝ }
     ensures { λ r. ⌜ r ≡ x + lift (stepOf code .1) ⌝ }
 {
-    match way_of(code) {
-        Way::Arrow(s) => moved(x, s.1),
-        Way::Absent => 0,
-        Way::Bad => 0,
+    match meaning_of(code) {
+        Meaning::Arrow(s) => moved(x, s.1),
+        Meaning::Absent => 0,
+        Meaning::Bad => 0,
     }
 }
 
@@ -43,10 +43,10 @@ pub fn col_after(x: usize, code: u8) -> usize
     requires { ⌜ (x < 4096) × (isArrow code ≡ true) ⌝ }
     ensures { λ r. ⌜ r ≡ x + lift (stepOf code .2) ⌝ }
 {
-    match way_of(code) {
-        Way::Arrow(s) => moved(x, s.2),
-        Way::Absent => 0,
-        Way::Bad => 0,
+    match meaning_of(code) {
+        Meaning::Arrow(s) => moved(x, s.2),
+        Meaning::Absent => 0,
+        Meaning::Bad => 0,
     }
 }
 

@@ -1,16 +1,13 @@
-// What is gathered over a whole sheet: the first bad code, the number of land cells and of outlets, the greatest count; and a buffer cleared.
+// What is gathered over a whole sheet: the first bad code, the number of land cells, the greatest count; and a buffer cleared.
 ghost use mathlib.Core.Path.{_≡_};
-ghost use Prim.Native.Nat.{_*_};
 ghost use lib.ListN.{length, replicate};
 ghost use Rattle.flow.specs.Net.{number};
 ghost use Rattle.promise.specs.First.{Finds};
-ghost use Rattle.sheet.specs.Leaves.{Place, badAt};
-ghost use Rattle.sheet.specs.Shape.{SheetShape};
-ghost use Rattle.sheet.specs.Sheet.{CodeOk, landAt, countAt, outletAt};
-ghost use Rattle.sheet.specs.Totals.{outlets, greatestBelow};
+ghost use Rattle.sheet.specs.Leaves.{badAt};
+ghost use Rattle.sheet.specs.Sheet.{CodeOk, landAt, countAt};
+ghost use Rattle.sheet.specs.Totals.{greatestBelow};
 use crate::compass::is_arrow;
 use crate::compass::is_code;
-use crate::step::dest;
 use promise::Found;
 
 // The number of bad codes. (No early end, so that many cells are tested at once.)
@@ -71,36 +68,6 @@ pub fn land_number(grid: &[u8]) -> usize
     let mut i = 0;
     while i < grid.len() {
         if is_arrow(grid[i]) {
-            n += 1;
-        }
-        i += 1;
-    }
-    n
-}
-
-// Whether p is an outlet.
-pub fn is_outlet(rows: usize, cols: usize, grid: &[u8], p: usize) -> bool
-    requires { ⌜ Place rows cols p ⌝ }
-    requires { ⌜ length (now grid) ≡ rows * cols ⌝ }
-    ensures { λ r. ⌜ r ≡ outletAt rows cols (now (grid .entry)) p ⌝ }
-{
-    let none = rows * cols;
-    if !is_arrow(grid[p]) {
-        return false;
-    }
-    none <= dest(rows, cols, grid, p)
-}
-
-// The number of outlets.
-pub fn outlet_number(rows: usize, cols: usize, grid: &[u8]) -> usize
-    requires { ⌜ SheetShape rows cols ⌝ }
-    requires { ⌜ length (now grid) ≡ rows * cols ⌝ }
-    ensures { λ r. ⌜ r ≡ outlets rows cols (now (grid .entry)) ⌝ }
-{
-    let mut n: usize = 0;
-    let mut i = 0;
-    while i < grid.len() {
-        if is_outlet(rows, cols, grid, i) {
             n += 1;
         }
         i += 1;

@@ -7,23 +7,6 @@ ghost use Rattle.sheet.specs.Shape.{TileShape};
 ghost use Rattle.tile.specs.Border.{edgeAt, borderCells, borderNumber, borderPlace};
 use sheet::step::Spot;
 
-// Whether the cell of row r and column c is a border cell.
-pub fn is_border(rows: usize, cols: usize, r: usize, c: usize) -> bool
-    requires { ⌜ Cell rows cols r c ⌝ }
-    ensures { λ b. ⌜ b ≡ edgeAt rows cols r c ⌝ }
-{
-    if r == 0 {
-        return true;
-    }
-    if r + 1 == rows {
-        return true;
-    }
-    if c == 0 {
-        return true;
-    }
-    c + 1 == cols
-}
-
 // How many border cells a tile has: with one column or one row all, otherwise each corner once.
 pub fn border_cells(rows: usize, cols: usize) -> usize
     requires { ⌜ TileShape rows cols ⌝ }

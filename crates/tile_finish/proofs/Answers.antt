@@ -19,7 +19,7 @@ use Rattle.promise.specs.Links.UnlessSome.{refused-with, met-none}
 use Rattle.promise.specs.Reply.Reply.{reply}
 use Rattle.sheet.specs.Sheet.{destOf, unit, countAt}
 use Rattle.tile.specs.Border.{borderCells}
-use Rattle.tile_finish.specs.Finish.{Answered, IncomingOk, comesIn, ends}
+use Rattle.tile_finish.specs.Finish.{Answered, IncomingOk, comesAt, ends}
 use Rattle.tile_finish.specs.Method.{Spread}
 use Rattle.tile_finish.proofs.Weights.{weight-is}
 
@@ -37,7 +37,7 @@ module _ (rows cols : ℕ) (g incoming work c : List ℕ) (long : length g ≡ r
       let (free, counts) = none-left rows cols g work c long s (λ p l. left-not g c p (none p (omega arith))) in
       met-none (λ v first. first-loop-free free first) record {
         long = s .long;
-        equation = counts-weights (rows * cols) (destOf rows cols g) (weight g work) (λ p. unit g p + comesIn rows cols incoming p) (countAt c) (weight-is rows cols g incoming ok work laid) counts;
+        equation = counts-weights (rows * cols) (destOf rows cols g) (weight g work) (λ p. unit g p + comesAt rows cols incoming p) (countAt c) (weight-is rows cols g incoming ok work laid) counts;
         work-clear = z;
         said-is = refl;
       }

@@ -17,7 +17,7 @@ use Rattle.promise.proofs.One.{unless-one, unless-one-met, unless-all-one, unle
 use Rattle.sheet.specs.Sheet.{destOf, unit, countAt, SheetNoLoop}
 use Rattle.sheet.proofs.Dest.{dest-beyond, gives-unit}
 use Rattle.sheet.proofs.Unique.{loop-one}
-use Rattle.tile_finish.specs.Finish.{FinishPromise, FinishEnd, Finished, FinishedCounts, comesIn, finishReply, ends}
+use Rattle.tile_finish.specs.Finish.{FinishPromise, FinishOutcome, Finished, FinishedCounts, comesAt, finishReply, ends}
 use Rattle.tile_finish.specs.declared.FinishReply.{FinishReply}
 use Rattle.tile_finish.specs.declared.FinishReply.the-variants.{Done, Shape, Length, Code, Loop, Incoming}
 
@@ -25,12 +25,12 @@ module _ (rows cols : ℕ) (grid incoming : List ℕ) (long : length grid ≡ ro
   -- counts that satisfy the equation leave no room for a loop
   pub finished-no-loop : (c : List ℕ) → FinishedCounts rows cols grid incoming c → SheetNoLoop rows cols grid
   finished-no-loop c h =
-      weighted-no-loop (rows * cols) (destOf rows cols grid) (dest-beyond rows cols grid long) (λ p. unit grid p + comesIn rows cols incoming p) (countAt c) h
+      weighted-no-loop (rows * cols) (destOf rows cols grid) (dest-beyond rows cols grid long) (λ p. unit grid p + comesAt rows cols incoming p) (countAt c) h
       (λ p l b. omega (arith, gives-unit rows cols grid p l b .0))
 
   pub finished-counts-one : (c d : List ℕ) → length c ≡ rows * cols → length d ≡ rows * cols → FinishedCounts rows cols grid incoming c → FinishedCounts rows cols grid incoming d → c ≡ d
   finished-counts-one c d lc ld a b =
-      ext-getD 0 c d (lc ∙ sym ld) (λ q h. counts-unique (rows * cols) (destOf rows cols grid) (dest-beyond rows cols grid long) (finished-no-loop c a) (λ p. unit grid p + comesIn rows cols incoming p) (countAt c) (countAt d) a b q (rw lc at h))
+      ext-getD 0 c d (lc ∙ sym ld) (λ q h. counts-unique (rows * cols) (destOf rows cols grid) (dest-beyond rows cols grid long) (finished-no-loop c a) (λ p. unit grid p + comesAt rows cols incoming p) (countAt c) (countAt d) a b q (rw lc at h))
 
   -- the equation has one solution, the work buffer is cleared, and the reply is given
   pub finished-one : AtMostOne (Finished rows cols grid incoming)

@@ -10,27 +10,26 @@ use native.Mathlib.Omega.{arith}
 use lib.ListN.{length}
 use Rattle.count.specs.Method.{weight, WeightsFit}
 use Rattle.flow.specs.Net.{on, sum, number, Counts}
-use Rattle.flow.proofs.Sum.{test, on-true, on-false, sum-add, sum-mono, sum-ones}
+use Rattle.flow.proofs.Sum.{test, on-true, on-false, sum-add, sum-mono, sum-ones, sum-times}
 use Rattle.sheet.specs.Shape.{TileShape}
 use Rattle.sheet.specs.Sheet.{landAt, destOf, unit, countAt}
-use Rattle.sheet.proofs.Weigh.{sum-times}
 use Rattle.tile.specs.Border.{onBorder, borderCells, borderNumber}
 use Rattle.tile.proofs.Borders.{number-below, number-place}
 use Rattle.tile.proofs.Cells.{cells-most}
-use Rattle.tile_finish.specs.Finish.{IncomingOk, comesIn}
+use Rattle.tile_finish.specs.Finish.{IncomingOk, comesAt}
 use Rattle.tile_finish.specs.Method.{Spread}
 use Rattle.tile_finish.proofs.Laying.{comes-on, comes-off, spread-all}
 
 module _ (rows cols : ℕ) (g incoming : List ℕ) (ok : (b : ℕ) → b < borderCells rows cols → IncomingOk rows cols g incoming b) where
   -- nothing comes in at an absent cell
-  pub absent-none : (p : ℕ) → p < rows * cols → landAt g p ≡ false → comesIn rows cols incoming p ≡ 0
+  pub absent-none : (p : ℕ) → p < rows * cols → landAt g p ≡ false → comesAt rows cols incoming p ≡ 0
   absent-none p l a = elim (test (onBorder rows cols p)) [
     | inl t ↦ comes-on rows cols incoming p t
         ∙ ok (borderNumber rows cols p) (number-below rows cols p l t) .absent-none (ap (landAt g) (number-place rows cols p l t) ∙ a)
     | inr t ↦ comes-off rows cols incoming p t
   ]
 
-  pub comes-most : (p : ℕ) → p < rows * cols → comesIn rows cols incoming p ≤ 4194304 * on (onBorder rows cols p) 1
+  pub comes-most : (p : ℕ) → p < rows * cols → comesAt rows cols incoming p ≤ 4194304 * on (onBorder rows cols p) 1
   comes-most p l = elim (test (onBorder rows cols p)) [
     | inl t ↦ omega (arith, comes-on rows cols incoming p t, ok (borderNumber rows cols p) (number-below rows cols p l t) .most, on-true 1 t)
     | inr t ↦ omega (arith, comes-off rows cols incoming p t)
@@ -38,7 +37,7 @@ module _ (rows cols : ℕ) (g incoming : List ℕ) (ok : (b : ℕ) → b < borde
 
   module _ (work : List ℕ) (laid : Spread rows cols incoming work (borderCells rows cols)) where
     -- what the method adds at a cell
-    pub weight-is : (p : ℕ) → p < rows * cols → weight g work p ≡ unit g p + comesIn rows cols incoming p
+    pub weight-is : (p : ℕ) → p < rows * cols → weight g work p ≡ unit g p + comesAt rows cols incoming p
     weight-is p l = elim (test (landAt g p)) [
       | inl t ↦ omega (arith, on-true (1 + countAt work p) t, on-true 1 t, spread-all rows cols incoming laid p l)
       | inr t ↦ omega (arith, on-false (1 + countAt work p) t, on-false 1 t, absent-none p l t)

@@ -25,12 +25,12 @@ finishReply (Loop place len) = reply 4 (place ∷ len ∷ [])
 finishReply (Incoming border) = reply 10 (border ∷ [])
 
 -- an outcome: what is said, and what the counts and the work buffer then hold
-pub record FinishEnd : Type 0 where
+pub record FinishOutcome : Type 0 where
   pub said : Reply
   pub counts : List ℕ
   pub work : List ℕ
 
-abbrev pub ends : Reply → List ℕ → List ℕ → FinishEnd
+abbrev pub ends : Reply → List ℕ → List ℕ → FinishOutcome
 ends said counts work = record { said = said; counts = counts; work = work }
 
 -- grid, counts and the work buffer have as many elements as the tile has cells, incoming as many as it has border cells
@@ -46,36 +46,36 @@ pub record IncomingOk (rows cols : ℕ) (grid incoming : List ℕ) (b : ℕ) : T
   pub absent-none : landAt grid (borderPlace rows cols b) ≡ false → countAt incoming b ≡ 0
 
 -- what comes in at place p from other tiles
-unfoldable pub comesIn : (rows cols : ℕ) (incoming : List ℕ) → ℕ → ℕ
-comesIn rows cols incoming p = on (onBorder rows cols p) (countAt incoming (borderNumber rows cols p))
+unfoldable pub comesAt : (rows cols : ℕ) (incoming : List ℕ) → ℕ → ℕ
+comesAt rows cols incoming p = on (onBorder rows cols p) (countAt incoming (borderNumber rows cols p))
 
 -- equation 1 on the tile, where each cell adds what comes in at it beside its own 1
 abbrev pub FinishedCounts : (rows cols : ℕ) (grid incoming counts : List ℕ) → Type 0
 FinishedCounts rows cols grid incoming counts =
-    Counts (rows * cols) (destOf rows cols grid) (λ p. unit grid p + comesIn rows cols incoming p) (countAt counts)
+    Counts (rows * cols) (destOf rows cols grid) (λ p. unit grid p + comesAt rows cols incoming p) (countAt counts)
 
 -- done: the counts satisfy that equation at every place, and the work buffer holds 0
-pub record Finished (rows cols : ℕ) (grid incoming : List ℕ) (e : FinishEnd) : Type 0 where
+pub record Finished (rows cols : ℕ) (grid incoming : List ℕ) (e : FinishOutcome) : Type 0 where
   pub long : length (e .counts) ≡ rows * cols
   pub equation : FinishedCounts rows cols grid incoming (e .counts)
   pub work-clear : e .work ≡ replicate (rows * cols) 0
   pub said-is : e .said ≡ reply 0 []
 
 -- of a tile without bad codes, with incoming that can be taken: 4, done. After 4 counts and work buffer hold 0 throughout
-abbrev pub Answered : (rows cols : ℕ) (grid incoming : List ℕ) → FinishEnd → Type 0
+abbrev pub Answered : (rows cols : ℕ) (grid incoming : List ℕ) → FinishOutcome → Type 0
 Answered rows cols grid incoming =
     UnlessSome (LoopIn rows cols grid) (λ v. ends (reply 4 (v .place ∷ v .len ∷ [])) (replicate (rows * cols) 0) (replicate (rows * cols) 0)) then
     Finished rows cols grid incoming
 
 -- of a tile whose shape and lengths fit: 3, 10, 4, done
-abbrev pub FinishCells : (rows cols : ℕ) (grid incoming counts work : List ℕ) → FinishEnd → Type 0
+abbrev pub FinishCells : (rows cols : ℕ) (grid incoming counts work : List ℕ) → FinishOutcome → Type 0
 FinishCells rows cols grid incoming counts work =
     UnlessAll (rows * cols) (CodeOk grid) (λ p. ends (reply 3 (p ∷ [])) counts work) then
     UnlessAll (borderCells rows cols) (IncomingOk rows cols grid incoming) (λ b. ends (reply 10 (b ∷ [])) counts work) then
     Answered rows cols grid incoming
 
 -- finishing: 1, 2, 3, 10, 4, done. After every refusal but 4 counts and work buffer are as they were lent
-abbrev pub FinishPromise : (rows cols : ℕ) (grid incoming counts work : List ℕ) → FinishEnd → Type 0
+abbrev pub FinishPromise : (rows cols : ℕ) (grid incoming counts work : List ℕ) → FinishOutcome → Type 0
 FinishPromise rows cols grid incoming counts work =
     Unless (TileShape rows cols) (ends (reply 1 []) counts work) then
     Unless (FinishLengths rows cols grid incoming counts work) (ends (reply 2 []) counts work) then

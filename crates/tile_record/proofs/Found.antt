@@ -17,7 +17,7 @@ use Rattle.tile.proofs.Edge.{border-at}
 use Rattle.tile.proofs.Ways.{crosses-border, steps-out, steps-in, way-absent}
 use Rattle.tile_record.specs.declared.ways.BorderWay.{BorderWay}
 use Rattle.tile_record.specs.Bytes.{two, wayBytes}
-use Rattle.tile_record.specs.Method.{Puts, Finds, endWay}
+use Rattle.tile_record.specs.Method.{Puts, SameWay, endWay}
 use Rattle.tile_record.proofs.Puts.{puts-is, puts-then}
 
 module _ (rows cols : ℕ) (g : List ℕ) where
@@ -34,7 +34,7 @@ module _ (rows cols : ℕ) (g : List ℕ) where
     pub arrow-there : landAt g (r * cols + c) ≡ true → isArrow (getD g (r * cols + c) 0) ≡ true
     arrow-there a = land-read g (r * cols + c) there ∙ a
 
-    pub found-absent : isArrow (getD g (r * cols + c) 0) ≡ false → Finds (wayAt rows cols g (r * cols + c)) (record { number = 65535; code = 255 })
+    pub found-absent : isArrow (getD g (r * cols + c) 0) ≡ false → SameWay (wayAt rows cols g (r * cols + c)) (record { number = 65535; code = 255 })
     found-absent e = rw (way-absent rows cols g (r * cols + c) (sym (land-read g (r * cols + c) there) ∙ e)) (refl, refl)
 
     module _ (land : landAt g (r * cols + c) ≡ true) {q : ℕ} (s : q ≡ stepFrom rows cols (stepOf (getD g (r * cols + c) 0)) (r * cols + c)) where
@@ -42,7 +42,7 @@ module _ (rows cols : ℕ) (g : List ℕ) where
       stepped = s ∙ ap (λ (x : ℕ). stepFrom rows cols (stepOf x) (r * cols + c)) (code-read g (r * cols + c) there)
 
       -- its arrow stays inside, so that it points at an absent cell
-      pub found-inside : q < rows * cols → Finds (endWay rows cols g (r * cols + c)) (record { number = 65535; code = 0 })
+      pub found-inside : q < rows * cols → SameWay (endWay rows cols g (r * cols + c)) (record { number = 65535; code = 0 })
       unfolding endWay
       found-inside l = rw (steps-in rows cols g (r * cols + c) (omega (arith, stepped))) (refl, refl)
 
@@ -53,15 +53,15 @@ module _ (rows cols : ℕ) (g : List ℕ) where
       pub found-edge : rows * cols ≤ q → edgeAt rows cols r c ≡ true
       found-edge l = sym (border-at rows cols r c (cell .col-in)) ∙ crosses-border rows cols g (r * cols + c) (crossed l) (cell-below cell)
 
-      pub found-over : {n : ℕ} → rows * cols ≤ q → n ≡ borderNumber rows cols (r * cols + c) → Finds (endWay rows cols g (r * cols + c)) (record { number = n; code = getD g (r * cols + c) 0 })
+      pub found-over : {n : ℕ} → rows * cols ≤ q → n ≡ borderNumber rows cols (r * cols + c) → SameWay (endWay rows cols g (r * cols + c)) (record { number = n; code = getD g (r * cols + c) 0 })
       unfolding endWay
       found-over l e = rw (crossed l) (e, code-read g (r * cols + c) there)
 
 -- the same way, told otherwise
-pub finds-is : {v w : Way} {b : BorderWay} → v ≡ w → Finds v b → Finds w b
+pub finds-is : {v w : Way} {b : BorderWay} → v ≡ w → SameWay v b → SameWay w b
 finds-is {b = b} e f = (f .0 ∙ ap (λ (u : Way). u .number) e, f .1 ∙ ap (λ (u : Way). u .code) e)
 
 -- a way that is found, put into the record
-pub puts-way : {v : Way} {b : BorderWay} {x y z : List ℕ} {at mid next : ℕ} → Finds v b → Puts (two (b .number)) x at y mid → Puts (b .code ∷ []) y mid z next
+pub puts-way : {v : Way} {b : BorderWay} {x y z : List ℕ} {at mid next : ℕ} → SameWay v b → Puts (two (b .number)) x at y mid → Puts (b .code ∷ []) y mid z next
     → Puts (wayBytes v) x at z next
 puts-way f p q = puts-is (rw (f .0, f .1)) (puts-then p q)

@@ -12,7 +12,7 @@ use Rattle.promise.specs.Reply.Reply.{reply}
 use Rattle.promise.proofs.One.{unless-one, unless-one-met, unless-all-one, unless-some-one, one-value}
 use Rattle.sheet.proofs.Unique.{loop-one, counts-one}
 use Rattle.tile_record.specs.Bytes.{recordBytes}
-use Rattle.tile_record.specs.Record.{RecordPromise, RecordEnd, Recorded, recordReply, ends}
+use Rattle.tile_record.specs.Record.{RecordPromise, RecordOutcome, Recorded, recordReply, ends}
 use Rattle.tile_record.specs.declared.RecordReply.{RecordReply}
 use Rattle.tile_record.specs.declared.RecordReply.the-variants.{Done, Shape, Layout, Length, Code, Loop}
 
@@ -50,7 +50,7 @@ pub record Answer : Type 0 where
   pub work2-after : List ℕ
 
 -- as an outcome
-abbrev pub outcome : Answer → RecordEnd
+abbrev pub outcome : Answer → RecordOutcome
 outcome a = ends (recordReply (a .answer)) (a .bytes-after) (a .work1-after) (a .work2-after)
 
 module _ (rows cols tileRow tileCol : ℕ) (grid bytes work1 work2 : List ℕ) where

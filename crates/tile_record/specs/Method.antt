@@ -33,8 +33,8 @@ pub record Known (rows cols : ℕ) (grid known : List ℕ) : Type 0 where
   pub right : (p : ℕ) → p < rows * cols → (countAt known p ≡ 0 → ⊥) → countAt known p ≡ lastCell rows cols grid p + 1
 
 -- a way that is found is the way w
-abbrev pub Finds : Way → BorderWay → Type 0
-Finds w found = (found .number ≡ w .number) × (found .code ≡ w .code)
+abbrev pub SameWay : Way → BorderWay → Type 0
+SameWay w found = (found .number ≡ w .number) × (found .code ≡ w .code)
 
 -- the way of a path whose last cell is e: over the edge there, or it ends inside
 unfoldable pub endWay : (rows cols : ℕ) → List ℕ → ℕ → Way

@@ -24,13 +24,13 @@ recordReply (Code place) = reply 3 (place ∷ [])
 recordReply (Loop place len) = reply 4 (place ∷ len ∷ [])
 
 -- an outcome: what is said, and what the record's bytes and the two work buffers then hold
-pub record RecordEnd : Type 0 where
+pub record RecordOutcome : Type 0 where
   pub said : Reply
   pub bytes : List ℕ
   pub work1 : List ℕ
   pub work2 : List ℕ
 
-abbrev pub ends : Reply → List ℕ → List ℕ → List ℕ → RecordEnd
+abbrev pub ends : Reply → List ℕ → List ℕ → List ℕ → RecordOutcome
 ends said bytes work1 work2 = record { said = said; bytes = bytes; work1 = work1; work2 = work2 }
 
 -- a work buffer that holds 0 throughout
@@ -54,7 +54,7 @@ pub record RecordLengths (rows cols : ℕ) (grid bytes work1 work2 : List ℕ) :
   pub work2-long : length work2 ≡ rows * cols
 
 -- done: the record is that of the tile counted by itself, and the work buffers hold 0 throughout
-pub record Recorded (rows cols tileRow tileCol : ℕ) (grid : List ℕ) (e : RecordEnd) : Type 0 where
+pub record Recorded (rows cols tileRow tileCol : ℕ) (grid : List ℕ) (e : RecordOutcome) : Type 0 where
   pub counts : List ℕ
   pub long : length counts ≡ rows * cols
   pub equation : SheetCounts rows cols grid counts
@@ -64,19 +64,19 @@ pub record Recorded (rows cols tileRow tileCol : ℕ) (grid : List ℕ) (e : Rec
   pub work2-clear : e .work2 ≡ cleared rows cols
 
 -- of a tile without bad codes: 4, done. After 4 the work buffers hold 0 throughout, and the bytes are as they were lent
-abbrev pub RecordAnswer : (rows cols tileRow tileCol : ℕ) (grid bytes : List ℕ) → RecordEnd → Type 0
+abbrev pub RecordAnswer : (rows cols tileRow tileCol : ℕ) (grid bytes : List ℕ) → RecordOutcome → Type 0
 RecordAnswer rows cols tileRow tileCol grid bytes =
     UnlessSome (LoopIn rows cols grid) (λ v. ends (reply 4 (v .place ∷ v .len ∷ [])) bytes (cleared rows cols) (cleared rows cols)) then
     Recorded rows cols tileRow tileCol grid
 
 -- of a tile whose shape, position and lengths fit: 3, 4, done
-abbrev pub RecordCells : (rows cols tileRow tileCol : ℕ) (grid bytes work1 work2 : List ℕ) → RecordEnd → Type 0
+abbrev pub RecordCells : (rows cols tileRow tileCol : ℕ) (grid bytes work1 work2 : List ℕ) → RecordOutcome → Type 0
 RecordCells rows cols tileRow tileCol grid bytes work1 work2 =
     UnlessAll (rows * cols) (CodeOk grid) (λ p. ends (reply 3 (p ∷ [])) bytes work1 work2) then
     RecordAnswer rows cols tileRow tileCol grid bytes
 
 -- writing a record: 1, 9, 2, 3, 4, done. After 1, 9, 2 and 3 all buffers are as they were lent
-abbrev pub RecordPromise : (rows cols tileRow tileCol : ℕ) (grid bytes work1 work2 : List ℕ) → RecordEnd → Type 0
+abbrev pub RecordPromise : (rows cols tileRow tileCol : ℕ) (grid bytes work1 work2 : List ℕ) → RecordOutcome → Type 0
 RecordPromise rows cols tileRow tileCol grid bytes work1 work2 =
     Unless (TileShape rows cols) (ends (reply 1 []) bytes work1 work2) then
     Unless (TilePosition tileRow tileCol) (ends (reply 9 (0 ∷ [])) bytes work1 work2) then

@@ -9,7 +9,7 @@ ghost use Rattle.sheet.specs.Sheet.{landAt};
 ghost use Rattle.tile.specs.Border.{borderCells};
 ghost use Rattle.tile.specs.Way.{lastCell, wayAt};
 ghost use Rattle.tile_record.specs.Bytes.{field, each, borderWay, wayBytes};
-ghost use Rattle.tile_record.specs.Method.{Puts, FreeTile, Known, Finds, endWay};
+ghost use Rattle.tile_record.specs.Method.{Puts, FreeTile, Known, SameWay, endWay};
 use crate::bytes::put;
 use crate::bytes::put_head;
 use crate::bytes::put_two;
@@ -89,7 +89,7 @@ fn last_of(rows: usize, cols: usize, grid: &[u8], known: &mut [u32], r: usize, c
 fn way_from(rows: usize, cols: usize, grid: &[u8], r: usize, c: usize) -> BorderWay
     requires { ⌜ Cell rows cols r c × (length (now grid) ≡ rows * cols) ⌝ }
     requires { ⌜ landAt (now grid) (r * cols + c) ≡ true ⌝ }
-    ensures { λ w. ⌜ Finds (endWay rows cols (now (grid .entry)) (r * cols + c)) w ⌝ }
+    ensures { λ w. ⌜ SameWay (endWay rows cols (now (grid .entry)) (r * cols + c)) w ⌝ }
 {
     let none = rows * cols;
     let code = grid[r * cols + c];
@@ -109,7 +109,7 @@ fn way_from(rows: usize, cols: usize, grid: &[u8], r: usize, c: usize) -> Border
 fn way_of(rows: usize, cols: usize, grid: &[u8], known: &mut [u32], r: usize, c: usize) -> BorderWay
     requires { ⌜ FreeTile rows cols (now grid) × Cell rows cols r c ⌝ }
     requires { ⌜ Known rows cols (now grid) (now known) ⌝ }
-    ensures { λ w. ⌜ Finds (wayAt rows cols (now (grid .entry)) (r * cols + c)) w ⌝ }
+    ensures { λ w. ⌜ SameWay (wayAt rows cols (now (grid .entry)) (r * cols + c)) w ⌝ }
     ensures { λ _. ⌜ Known rows cols (now (grid .entry)) (now (known .exit)) ⌝ }
 {
     if !is_arrow(grid[r * cols + c]) {

@@ -6,7 +6,7 @@ use Prim.Native.Nat.{ℕ, _+_, _*_, _/_, _%_, _<_, _≤_}
 use native.Mathlib.Omega.{arith}
 use Rattle.flow.specs.Net.{sum}
 use Rattle.flow.proofs.Sum.{sum-ext}
-use Rattle.mosaic.specs.Layout.{Fits, Cut, sheetRows, sheetCols, heightOf, widthOf, cellsIn, spotAt, tileAt, bordersIn, bordersBefore, allBorders}
+use Rattle.mosaic.specs.Layout.{Fits, Cut, sheetRows, sheetCols, heightOf, widthOf, cellsIn, spotAt, sheetPlace, bordersIn, bordersBefore, allBorders}
 use Rattle.mosaic.proofs.Pieces.{row-in, col-in}
 use Rattle.sheet.specs.Sheet.{codeAt}
 use Rattle.tile.specs.Border.{borderCells}
@@ -27,8 +27,8 @@ module _ (I J : ℕ) (hs ws ks vs : ℕ → ℕ) (same-height : (i : ℕ) → i 
   pub cells-agree : (t : ℕ) → t < I * J → cellsIn J ks vs t ≡ cellsIn J hs ws t
   cells-agree t l = ap₂ (λ (a b : ℕ). a * b) (height-agree t l) (width-agree t l)
 
-  pub at-agree : (t x : ℕ) → t < I * J → tileAt I J ks vs t x ≡ tileAt I J hs ws t x
-  unfolding tileAt
+  pub at-agree : (t x : ℕ) → t < I * J → sheetPlace I J ks vs t x ≡ sheetPlace I J hs ws t x
+  unfolding sheetPlace
   at-agree t x l =
       let above : sum (t / J) ks ≡ sum (t / J) hs = sum-ext (λ i li. same-height i (omega (arith, row-in I J t l))) in
       let left : sum (t % J) vs ≡ sum (t % J) ws = sum-ext (λ j lj. same-width j (omega (arith, col-in I J t l))) in

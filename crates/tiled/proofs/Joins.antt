@@ -9,9 +9,9 @@ use native.Mathlib.Omega.{arith}
 use lib.ListN.{length}
 use Rattle.flow.specs.Net.{NoLoop, OnLoop, FirstLoop}
 use Rattle.mosaic.specs.Join.{Tells, TilesFree, feeds}
-use Rattle.mosaic.specs.Layout.{Fits, Cut, sheetRows, sheetCols, heightOf, widthOf, allBorders, borderAt}
+use Rattle.mosaic.specs.Layout.{Fits, Cut, sheetRows, sheetCols, heightOf, widthOf, allBorders, borderSheetPlace}
 use Rattle.mosaic.proofs.Tiled.{tiled-loop}
-use Rattle.mosaic_join.specs.Joining.{JoinEnd, JoinExits, Joined, JoinLengths, ExitLoop}
+use Rattle.mosaic_join.specs.Joining.{JoinOutcome, JoinExits, Joined, JoinLengths, ExitLoop}
 use Rattle.mosaic_read.specs.Read.{MosaicShape}
 use Rattle.mosaic_read.specs.Records.{heights, widths}
 use Rattle.mosaic_read.specs.Said.{saidCount, saidWay, saidCode}
@@ -88,5 +88,5 @@ module _ (I J : ℕ) (hs ws : ℕ → ℕ) (sheet : List ℕ) (tiles : ℕ → L
         go : JoinExits I J bytes (j .joined) → ((numberOf (j .joined .said) ≡ 4) × SheetHasLoop I J hs ws sheet tiles) ⊎ (((v : LoopFound) → ExitLoop I J bytes v → ⊥) × Joined I J bytes (j .joined))
         go (refused-with v a e) =
             let o = tiled-loop I J ks vs fits-told sheet tiles cut-told (own I J hs ws sheet tiles s w all) (saidCount bytes I J) (saidWay bytes I J) (saidCode bytes I J) free-told tells-told (v .place) (a .here .0) .0 (a .here) in
-            inl (ap (λ (r : JoinEnd). numberOf (r .said)) e, (borderAt I J ks vs (v .place), rw (← sheet-same, ← cols-same) (o .1)))
+            inl (ap (λ (r : JoinOutcome). numberOf (r .said)) e, (borderSheetPlace I J ks vs (v .place), rw (← sheet-same, ← cols-same) (o .1)))
         go (met-none n u) = inr (n, u)

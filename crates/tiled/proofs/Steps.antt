@@ -7,7 +7,7 @@ use Prim.Native.Nat.{ℕ, _+_, _*_, _/_, _%_, _<_, _≤_}
 use native.Mathlib.Nat.{div-le-self, mod-le}
 use native.Mathlib.Omega.{arith}
 use lib.ListN.{length}
-use Rattle.mosaic.specs.Layout.{Fits, Cut, sheetRows, sheetCols, heightOf, widthOf, cellsIn, tileAt}
+use Rattle.mosaic.specs.Layout.{Fits, Cut, sheetRows, sheetCols, heightOf, widthOf, cellsIn, sheetPlace}
 use Rattle.mosaic.proofs.Grid.{tile-below}
 use Rattle.mosaic.proofs.Pieces.{row-in, col-in}
 use Rattle.promise.specs.Links.UnlessSome.{refused-with, met-none}
@@ -17,7 +17,7 @@ use Rattle.sheet.specs.Compass.{isCode}
 use Rattle.sheet.specs.Shape.{TileShape}
 use Rattle.sheet.specs.Sheet.{CodeOk, SheetOnLoop, SheetNoLoop, LoopIn}
 use Rattle.sheet.proofs.Passes.{counts-no-loop}
-use Rattle.tile_record.specs.Record.{Recorded, RecordAnswer, RecordEnd, TilePosition}
+use Rattle.tile_record.specs.Record.{Recorded, RecordAnswer, RecordOutcome, TilePosition}
 use Rattle.tiled.specs.Run.{CutSheet, Writing}
 
 module _ (I J : ℕ) (hs ws : ℕ → ℕ) (sheet : List ℕ) (tiles : ℕ → List ℕ) (s : CutSheet I J hs ws sheet tiles) where
@@ -28,7 +28,7 @@ module _ (I J : ℕ) (hs ws : ℕ → ℕ) (sheet : List ℕ) (tiles : ℕ → L
       record { some-row = h .0; rows-most = h .1; some-col = w .0; cols-most = w .1 }
 
   pub tile-codes : (t : ℕ) → t < I * J → (x : ℕ) → x < cellsIn J hs ws t → CodeOk (tiles t) x
-  tile-codes t l x lx = ap isCode (s .cut .codes t x l lx) ∙ s .codes (tileAt I J hs ws t x) (tile-below I J hs ws t x l lx)
+  tile-codes t l x lx = ap isCode (s .cut .codes t x l lx) ∙ s .codes (sheetPlace I J hs ws t x) (tile-below I J hs ws t x l lx)
 
   tile-position : (t : ℕ) → t < I * J → TilePosition (t / J) (t % J)
   tile-position t l = record { row-most = row-most; col-most = col-most }
@@ -54,7 +54,7 @@ module _ (I J : ℕ) (hs ws : ℕ → ℕ) (sheet : List ℕ) (tiles : ℕ → L
       where
         go : RecordAnswer (heightOf J hs t) (widthOf J ws t) (t / J) (t % J) (tiles t) (w .bytes t) (w .written t)
             → ((numberOf (w .written t .said) ≡ 4) × ((x : ℕ) × SheetOnLoop (heightOf J hs t) (widthOf J ws t) (tiles t) x)) ⊎ Wrote t
-        go (refused-with v a e) = inl (ap (λ (r : RecordEnd). numberOf (r .said)) e, (v .place, a .here))
+        go (refused-with v a e) = inl (ap (λ (r : RecordOutcome). numberOf (r .said)) e, (v .place, a .here))
         go (met-none n u) = inr u
 
     pub wrote-free : (t : ℕ) → t < I * J → Wrote t → SheetNoLoop (heightOf J hs t) (widthOf J ws t) (tiles t)

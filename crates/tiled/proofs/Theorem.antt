@@ -13,13 +13,13 @@ use Rattle.flow.proofs.Loop.{loop-or-free, first-loop-free}
 use Rattle.flow.proofs.Sum.{same, test}
 use Rattle.flow.proofs.Totals.{counts-weights}
 use Rattle.mosaic.specs.Join.{TilesFree, comesIn, comesAt, feeds}
-use Rattle.mosaic.specs.Layout.{Fits, Cut, sheetRows, sheetCols, heightOf, widthOf, cellsIn, tileAt, bordersIn, bordersBefore, borderAt, placeIn}
+use Rattle.mosaic.specs.Layout.{Fits, Cut, sheetRows, sheetCols, heightOf, widthOf, cellsIn, sheetPlace, bordersIn, bordersBefore, borderSheetPlace, placeIn}
 use Rattle.mosaic.proofs.Borders.{border-at, border-below}
 use Rattle.mosaic.proofs.Counted.{comes-fit, comes-dry, tiled-counts}
 use Rattle.mosaic.proofs.Cuts.{same-land}
 use Rattle.mosaic.proofs.Tiled.{tile-free, join-free}
 use Rattle.mosaic.proofs.Totals.{feeds-out}
-use Rattle.mosaic_join.specs.Joining.{JoinEnd, Joined, ExitLoop, borders, feedsBy}
+use Rattle.mosaic_join.specs.Joining.{JoinOutcome, Joined, ExitLoop, borders, feedsBy}
 use Rattle.mosaic_read.specs.Records.{heights, widths}
 use Rattle.mosaic_read.specs.Said.{saidCount, saidWay, saidCode}
 use Rattle.promise.specs.Reply.{Reply, numberOf}

@@ -11,7 +11,7 @@ use Rattle.flow.proofs.Loop.{first-loop-free}
 use Rattle.flow.proofs.Sum.{test}
 use Rattle.flow.proofs.Totals.{counts-weights}
 use Rattle.mosaic.specs.Join.{Totals, comesIn, comesAt}
-use Rattle.mosaic.specs.Layout.{sheetRows, sheetCols, heightOf, widthOf, cellsIn, tileAt, bordersIn, bordersBefore, allBorders, borderAt, placeIn}
+use Rattle.mosaic.specs.Layout.{sheetRows, sheetCols, heightOf, widthOf, cellsIn, sheetPlace, bordersIn, bordersBefore, allBorders, borderSheetPlace, placeIn}
 use Rattle.mosaic.proofs.Borders.{border-at, border-below}
 use Rattle.mosaic.proofs.Counted.{comes-fit, comes-dry, tiled-counts}
 use Rattle.mosaic.proofs.Cuts.{same-land}
@@ -93,7 +93,7 @@ module _ (I J : ℕ) (hs ws : ℕ → ℕ) (sheet : List ℕ) (tiles : ℕ → L
       fit = comes-fit I J ks vs (fits-told I J hs ws sheet tiles s w wrote) sheet tiles (cut-told I J hs ws sheet tiles s w wrote) free-told'
           (own I J hs ws sheet tiles s w wrote) count way code (tells-told I J hs ws sheet tiles s w wrote) (countAt c) counted-told own-told T' (joined .solve)
 
-      dry : (h : ℕ) → h < allBorders I J ks vs → landAt sheet (borderAt I J ks vs h) ≡ false → comesIn I J ks vs way code T' h ≡ 0
+      dry : (h : ℕ) → h < allBorders I J ks vs → landAt sheet (borderSheetPlace I J ks vs h) ≡ false → comesIn I J ks vs way code T' h ≡ 0
       dry = comes-dry I J ks vs (fits-told I J hs ws sheet tiles s w wrote) sheet tiles (cut-told I J hs ws sheet tiles s w wrote) free-told'
           (own I J hs ws sheet tiles s w wrote) count way code (tells-told I J hs ws sheet tiles s w wrote) (countAt c) counted-told own-told T' (joined .solve)
 
@@ -115,7 +115,7 @@ module _ (I J : ℕ) (hs ws : ℕ → ℕ) (sheet : List ℕ) (tiles : ℕ → L
             let g = bordersBefore J ks vs t + b in
             let lg = border-below I J ks vs t b l lk in
             let place : placeIn J ks vs t b ≡ borderPlace (heightOf J hs t) (widthOf J ws t) b = ap₂ (λ (x y : ℕ). borderPlace x y b) (height-agree I J hs ws ks vs tall wide t l) (width-agree I J hs ws ks vs tall wide t l) in
-            let at : borderAt I J ks vs g ≡ tileAt I J hs ws t (borderPlace (heightOf J hs t) (widthOf J ws t) b) = border-at I J ks vs t b l lk ∙ ap (tileAt I J ks vs t) place ∙ at-agree I J hs ws ks vs tall wide t _ l in
+            let at : borderSheetPlace I J ks vs g ≡ sheetPlace I J hs ws t (borderPlace (heightOf J hs t) (widthOf J ws t) b) = border-at I J ks vs t b l lk ∙ ap (sheetPlace I J ks vs t) place ∙ at-agree I J hs ws ks vs tall wide t _ l in
             record {
               most = omega (arith, in-is t b l lk, fit g lg);
               absent-none = λ a. in-is t b l lk ∙ dry g lg (ap (landAt sheet) at ∙ sym (same-land I J hs ws sheet tiles (s .cut) t _ l (T.place-in _ _ b lb)) ∙ a);
@@ -128,7 +128,7 @@ module _ (I J : ℕ) (hs ws : ℕ → ℕ) (sheet : List ℕ) (tiles : ℕ → L
             (λ v first. first-loop-free (tiles-free t l) first)
 
         -- what comes in at place x of tile t
-        comes-same : (t x : ℕ) → t < I * J → x < cellsIn J hs ws t → F.comesIn (heightOf J hs t) (widthOf J ws t) (f .incoming t) x ≡ comesAt I J ks vs way code T' t x
+        comes-same : (t x : ℕ) → t < I * J → x < cellsIn J hs ws t → F.comesAt (heightOf J hs t) (widthOf J ws t) (f .incoming t) x ≡ comesAt I J ks vs way code T' t x
         comes-same t x l lx =
             let h = height-agree I J hs ws ks vs tall wide t l in
             let v = width-agree I J hs ws ks vs tall wide t l in
@@ -143,7 +143,7 @@ module _ (I J : ℕ) (hs ws : ℕ → ℕ) (sheet : List ℕ) (tiles : ℕ → L
             ]
 
         -- FINISHED TILES HOLD THE WHOLE SHEET'S COUNTS
-        pub tiled-whole : (t x : ℕ) → t < I * J → x < cellsIn J hs ws t → countAt (f .finished t .counts) x ≡ countAt c (tileAt I J hs ws t x)
+        pub tiled-whole : (t x : ℕ) → t < I * J → x < cellsIn J hs ws t → countAt (f .finished t .counts) x ≡ countAt c (sheetPlace I J hs ws t x)
         tiled-whole t x l lx =
             tiled-counts I J ks vs (fits-told I J hs ws sheet tiles s w wrote) sheet tiles (cut-told I J hs ws sheet tiles s w wrote) free-told'
             (own I J hs ws sheet tiles s w wrote) count way code (tells-told I J hs ws sheet tiles s w wrote) (countAt c) counted-told own-told T' (joined .solve)
@@ -152,6 +152,6 @@ module _ (I J : ℕ) (hs ws : ℕ → ℕ) (sheet : List ℕ) (tiles : ℕ → L
           where
             finishes : (t : ℕ) → t < I * J → Counts (cellsIn J ks vs t) (destOf (heightOf J ks t) (widthOf J vs t) (tiles t)) (λ x. unit (tiles t) x + comesAt I J ks vs way code T' t x) (countAt (f .finished t .counts))
             finishes t l =
-                counts-weights (cellsIn J ks vs t) (destOf (heightOf J ks t) (widthOf J vs t) (tiles t)) (λ x. unit (tiles t) x + F.comesIn (heightOf J hs t) (widthOf J ws t) (f .incoming t) x) (λ x. unit (tiles t) x + comesAt I J ks vs way code T' t x) (countAt (f .finished t .counts))
+                counts-weights (cellsIn J ks vs t) (destOf (heightOf J ks t) (widthOf J vs t) (tiles t)) (λ x. unit (tiles t) x + F.comesAt (heightOf J hs t) (widthOf J ws t) (f .incoming t) x) (λ x. unit (tiles t) x + comesAt I J ks vs way code T' t x) (countAt (f .finished t .counts))
                 (λ x lx. ap (λ (y : ℕ). unit (tiles t) x + y) (comes-same t x l (rw (cells-agree I J hs ws ks vs tall wide t l) at lx)))
                 (rw (height-agree I J hs ws ks vs tall wide t l, width-agree I J hs ws ks vs tall wide t l) (finished t l .equation))

@@ -7,12 +7,12 @@ use mathlib.Core.Path.{_≡_}
 use Prim.Native.Nat.{ℕ, _+_, _*_, _/_, _%_, _<_}
 use lib.ListN.{length}
 use Rattle.mosaic.specs.Layout.{Fits, Cut, sheetRows, sheetCols, heightOf, widthOf, bordersIn, bordersBefore, allBorders}
-use Rattle.mosaic_join.specs.Joining.{JoinEnd, JoinPromise, Work}
+use Rattle.mosaic_join.specs.Joining.{JoinOutcome, JoinPromise, Work}
 use Rattle.promise.specs.Reply.{Reply, numberOf}
 use Rattle.sheet.specs.Sheet.{CodeOk, countAt, SheetOnLoop}
-use Rattle.tile_finish.specs.Finish.{FinishEnd, FinishLengths, FinishPromise}
+use Rattle.tile_finish.specs.Finish.{FinishOutcome, FinishLengths, FinishPromise}
 use Rattle.tile_record.specs.Bytes.{each}
-use Rattle.tile_record.specs.Record.{RecordEnd, RecordLengths, RecordPromise}
+use Rattle.tile_record.specs.Record.{RecordOutcome, RecordLengths, RecordPromise}
 
 module _ (I J : ℕ) (hs ws : ℕ → ℕ) (sheet : List ℕ) (tiles : ℕ → List ℕ) where
   -- the sheet, and its tiles
@@ -27,7 +27,7 @@ module _ (I J : ℕ) (hs ws : ℕ → ℕ) (sheet : List ℕ) (tiles : ℕ → L
     pub work1 : ℕ → List ℕ
     pub work2 : ℕ → List ℕ
     pub long : (t : ℕ) → t < I * J → RecordLengths (heightOf J hs t) (widthOf J ws t) (tiles t) (bytes t) (work1 t) (work2 t)
-    pub written : ℕ → RecordEnd
+    pub written : ℕ → RecordOutcome
     pub outcome : (t : ℕ) → t < I * J → RecordPromise (heightOf J hs t) (widthOf J ws t) (t / J) (t % J) (tiles t) (bytes t) (work1 t) (work2 t) (written t)
 
   -- the records, tile row by tile row
@@ -44,7 +44,7 @@ module _ (I J : ℕ) (hs ws : ℕ → ℕ) (sheet : List ℕ) (tiles : ℕ → L
     pub work3-long : length (work .work3) ≡ allBorders I J hs ws
     pub work4-long : length (work .work4) ≡ allBorders I J hs ws
     pub work5-long : length (work .work5) ≡ 128
-    pub joined : JoinEnd
+    pub joined : JoinOutcome
     pub outcome : JoinPromise I J (recordsOf w) incoming work joined
 
   -- and each tile is finished with its part of what joining wrote
@@ -54,7 +54,7 @@ module _ (I J : ℕ) (hs ws : ℕ → ℕ) (sheet : List ℕ) (tiles : ℕ → L
     pub work : ℕ → List ℕ
     pub part : (t b : ℕ) → t < I * J → b < bordersIn J hs ws t → countAt (incoming t) b ≡ countAt (j .joined .incoming) (bordersBefore J hs ws t + b)
     pub long : (t : ℕ) → t < I * J → FinishLengths (heightOf J hs t) (widthOf J ws t) (tiles t) (incoming t) (counts t) (work t)
-    pub finished : ℕ → FinishEnd
+    pub finished : ℕ → FinishOutcome
     pub outcome : (t : ℕ) → t < I * J → FinishPromise (heightOf J hs t) (widthOf J ws t) (tiles t) (incoming t) (counts t) (work t) (finished t)
 
   -- some step refuses for a loop: a record, or, where all records are written, the join

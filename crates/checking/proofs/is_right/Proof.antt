@@ -5,7 +5,7 @@ use native.Mathlib.Omega.{arith}
 use Prim.Native.Nat.{_+_, _*_}
 use Rattle.sheet.proofs.Dest.{land-read}
 use Rattle.sheet.proofs.Spots.{cell-below, cell-fits, cell-place}
-use Rattle.sheet.proofs.Weigh.{given-small}
+use Rattle.around.proofs.Weigh.{given-small}
 use Rattle.checking.proofs.Right.{right-land, right-absent}
 use borrow.Author.Needs.{needs}
 use Rattle.checking.proofs.is_right.Statement.{statement}
