@@ -1,2 +1,1 @@
 pub mod Count
-pub mod Method

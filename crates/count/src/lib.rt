@@ -1,18 +1,16 @@
 // Counting a whole sheet by the look-around method: scan the cells by place, write a cell that has no giver, and go down from it while all
 // givers have counts. What then holds 0 on land lies on a loop.
-pub mod method;
-
 ghost use mathlib.Core.List.{[]};
 ghost use mathlib.Core.Path.{_≡_};
 ghost use Prim.Native.Nat.{_*_};
 ghost use Rattle.sheet.specs.Shape.{SheetShape};
 ghost use Rattle.count.specs.Count.{CountPromise, CountCells, Answered, countReply, ends};
 ghost use Rattle.sheet.specs.Sheet.{SheetLengths};
-ghost use Rattle.count.specs.Method.{Counting, found};
-use crate::method::first_left;
-use crate::method::loop_length;
-use crate::method::scan;
+ghost use Rattle.scan.specs.Scan.{Counting, found};
+use loops::first_left;
+use loops::loop_length;
 use promise::Found;
+use scan::scan;
 use sheet::shape::Sheet;
 use sheet::shape::SheetMade;
 use sheet::totals::clear;

@@ -1,2 +1,3 @@
 pub mod One
 pub mod Apart
+pub mod Each

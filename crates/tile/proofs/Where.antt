@@ -9,8 +9,11 @@ use lib.Dec.{eqb, ltb}
 use borrow.Author.Tests.{eq-eqb, ne-eqb, lt-ltb, le-ltb}
 use Rattle.flow.proofs.Sum.{same}
 use Rattle.flow.proofs.Walk.{below}
-use Rattle.sheet.specs.Leaves.{SpotOf}
+use Rattle.sheet.specs.Leaves.{Cell, SpotOf}
+use Rattle.sheet.specs.Shape.{TileShape}
+use Rattle.sheet.specs.declared.step.Spot.{Spot}
 use Rattle.sheet.proofs.Places.{place-lt, row-of, col-of}
+use Rattle.sheet.proofs.Spots.{spot-cell}
 use Rattle.tile.specs.Border.{edgeAt, borderCells, borderNumber, borderPlace}
 use Rattle.tile.proofs.Edge.{edge-top, edge-foot, edge-left, edge-right, border-at}
 use Rattle.tile.proofs.Borders.{number-place}
@@ -103,3 +106,7 @@ module _ (rows cols b : ℕ) (lr : 0 < rows) (lc : 0 < cols) (l : b < borderCell
 
   pub col-closed : borderPlace rows cols b % cols ≡ colAt rows cols b
   col-closed = ap (λ (p : ℕ). p % cols) (sym (at-closed .place-is)) ∙ col-of cols (rowAt rows cols b) (colAt rows cols b) (at-closed .col-in)
+
+-- the spot of a border cell is a cell
+pub tile-cell : {rows cols : ℕ} {s : Spot} {q : ℕ} → TileShape rows cols → SpotOf rows cols s q → s .row < rows → Cell rows cols (s .row) (s .col)
+tile-cell shape at l = spot-cell at (omega (arith, shape .rows-most)) (omega (arith, shape .cols-most)) l

@@ -7,10 +7,11 @@ use mathlib.Core.Path.{_≡_, refl, sym, ap, _∙_}
 use Prim.Native.Nat.{ℕ, _+_, _*_, _<_}
 use native.Mathlib.Omega.{arith}
 use lib.ListN.{length, replicate}
-use Rattle.count.specs.Method.{Counting, NotLeft, weight}
-use Rattle.count.proofs.Answers.{left-first}
-use Rattle.count.proofs.Left.{left-not}
-use Rattle.count.proofs.Scan.{none-left}
+use Rattle.scan.specs.Scan.{Counting, weight}
+use Rattle.loops.specs.Left.{NotLeft}
+use Rattle.loops.proofs.First.{left-first}
+use Rattle.loops.proofs.Left.{left-not}
+use Rattle.scan.proofs.Scanning.{none-left}
 use Rattle.flow.specs.Net.{loopLength}
 use Rattle.flow.proofs.Loop.{first-loop-free}
 use Rattle.flow.proofs.Totals.{counts-weights}

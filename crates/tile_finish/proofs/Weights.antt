@@ -8,7 +8,7 @@ use Prim.Native.Nat.{ℕ, _+_, _*_, _<_, _≤_}
 use native.Mathlib.Nat.{mul-le-mul}
 use native.Mathlib.Omega.{arith}
 use lib.ListN.{length}
-use Rattle.count.specs.Method.{weight, WeightsFit}
+use Rattle.scan.specs.Scan.{weight, WeightsFit}
 use Rattle.flow.specs.Net.{on, sum, number, Counts}
 use Rattle.flow.proofs.Sum.{test, on-true, on-false, sum-add, sum-mono, sum-ones, sum-times}
 use Rattle.sheet.specs.Shape.{TileShape}

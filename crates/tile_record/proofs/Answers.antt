@@ -12,12 +12,13 @@ use Rattle.flow.specs.Net.{loopLength}
 use Rattle.flow.proofs.Loop.{first-loop-free}
 use Rattle.sheet.specs.Shape.{TileShape}
 use Rattle.sheet.specs.Sheet.{destOf, SheetNoLoop, SheetCounts}
-use Rattle.count.specs.Method.{Counting, NotLeft}
-use Rattle.count.proofs.Answers.{left-first}
-use Rattle.count.proofs.Left.{left-not}
-use Rattle.count.proofs.Scan.{none-left}
-use Rattle.tile_record.specs.Bytes.{recordBytes}
-use Rattle.tile_record.specs.Method.{FreeTile}
+use Rattle.scan.specs.Scan.{Counting}
+use Rattle.loops.specs.Left.{NotLeft}
+use Rattle.loops.proofs.First.{left-first}
+use Rattle.loops.proofs.Left.{left-not}
+use Rattle.scan.proofs.Scanning.{none-left}
+use Rattle.tile_bytes.specs.Bytes.{recordBytes}
+use Rattle.tile_ways.specs.Ways.{FreeTile}
 use Rattle.tile_record.specs.Record.{RecordAnswer, cleared, ends}
 
 -- a buffer that has been cleared

@@ -9,7 +9,7 @@ use Rattle.sheet.specs.Compass.{isArrow, lineOf, stepOf}
 use Rattle.sheet.specs.Sheet.{landAt, stepFrom, destOf}
 use Rattle.tile.specs.Border.{edgeAt, onBorder, borderCells, borderNumber, nth, borderPlace}
 use Rattle.tile.specs.Way.{crosses, lastCell, wayAt}
-use Rattle.tile_record.specs.Bytes.{each, recordBytes}
+use Rattle.tile_bytes.specs.Bytes.{each, recordBytes}
 
 -- 01 0008 0001 0002 0000 0000, 02 0008 00000001 00000002, 03 0006 0001 01 0001 01
 abbrev caseO : List ℕ

@@ -11,7 +11,7 @@ use Rattle.promise.specs.Reply.{Reply}
 use Rattle.promise.specs.Reply.Reply.{reply}
 use Rattle.promise.proofs.One.{unless-one, unless-one-met, unless-all-one, unless-some-one, one-value}
 use Rattle.sheet.proofs.Unique.{loop-one, counts-one}
-use Rattle.tile_record.specs.Bytes.{recordBytes}
+use Rattle.tile_bytes.specs.Bytes.{recordBytes}
 use Rattle.tile_record.specs.Record.{RecordPromise, RecordOutcome, Recorded, recordReply, ends}
 use Rattle.tile_record.specs.declared.RecordReply.{RecordReply}
 use Rattle.tile_record.specs.declared.RecordReply.the-variants.{Done, Shape, Layout, Length, Code, Loop}

@@ -5,11 +5,11 @@ use mathlib.Core.Path.{_≡_, sym, _∙_}
 use Prim.Native.Nat.{ℕ}
 use lib.ListN.{length}
 use Rattle.tile.specs.Border.{borderCells}
-use Rattle.tile_record.specs.Bytes.{field, each, sides, borderCount, borderWay, wayBytes, recordBytes}
-use Rattle.tile_record.specs.Method.{Puts}
-use Rattle.tile_record.specs.Record.{recordLength}
-use Rattle.tile_record.proofs.Each.{record-long}
-use Rattle.tile_record.proofs.Puts.{puts-then, puts-all}
+use Rattle.tile_bytes.specs.Bytes.{field, each, sides, borderCount, borderWay, wayBytes, recordBytes}
+use Rattle.tile_bytes.specs.Puts.{Puts}
+use Rattle.tile_bytes.specs.Bytes.{recordLength}
+use Rattle.tile_bytes.proofs.Each.{record-long}
+use Rattle.tile_bytes.proofs.Puts.{puts-then, puts-all}
 
 pub whole : (rows cols tileRow tileCol : ℕ) (grid counts : List ℕ) {x y z w : List ℕ} {a b n : ℕ}
     → Puts (field 1 (sides rows cols tileRow tileCol)) x 0 y a

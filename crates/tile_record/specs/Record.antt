@@ -10,7 +10,7 @@ use Rattle.promise.specs.Reply.Reply.{reply}
 use Rattle.sheet.specs.Shape.{TileShape}
 use Rattle.sheet.specs.Sheet.{CodeOk, SheetCounts, LoopIn}
 use Rattle.tile.specs.Border.{borderCells}
-use Rattle.tile_record.specs.Bytes.{recordBytes}
+use Rattle.tile_bytes.specs.Bytes.{recordBytes, recordLength}
 use Rattle.tile_record.specs.declared.RecordReply.{RecordReply}
 use Rattle.tile_record.specs.declared.RecordReply.the-variants.{Done, Shape, Layout, Length, Code, Loop}
 
@@ -36,10 +36,6 @@ ends said bytes work1 work2 = record { said = said; bytes = bytes; work1 = work1
 -- a work buffer that holds 0 throughout
 abbrev pub cleared : (rows cols : ℕ) → List ℕ
 cleared rows cols = replicate (rows * cols) 0
-
--- how many bytes a record has
-abbrev pub recordLength : (rows cols : ℕ) → ℕ
-recordLength rows cols = 17 + 7 * borderCells rows cols
 
 -- the tile's position in a mosaic of at most 64 tiles
 pub record TilePosition (tileRow tileCol : ℕ) : Type 0 where

@@ -1,28 +1,25 @@
 // Writing the border record of a tile: the tile is counted by itself, and of each border cell its count and its way are written.
-pub mod bytes;
-pub mod ways;
-
 ghost use mathlib.Core.List.{[]};
 ghost use mathlib.Core.Path.{_≡_};
 ghost use Prim.Native.Nat.{_*_};
 ghost use lib.ListN.{length, replicate};
 ghost use Rattle.sheet.specs.Shape.{TileShape};
-ghost use Rattle.count.specs.Method.{Counting};
-ghost use Rattle.tile_record.specs.Bytes.{recordBytes};
-ghost use Rattle.tile_record.specs.Method.{FreeTile};
-ghost use Rattle.tile_record.specs.Record.{RecordPromise, RecordCells, RecordAnswer, RecordLengths, recordLength, recordReply, ends, cleared};
-use crate::bytes::write_counts;
-use crate::bytes::write_sides;
-use crate::ways::write_ways;
-use count::method::first_left;
-use count::method::loop_length;
-use count::method::scan;
+ghost use Rattle.scan.specs.Scan.{Counting};
+ghost use Rattle.tile_bytes.specs.Bytes.{recordBytes, recordLength};
+ghost use Rattle.tile_ways.specs.Ways.{FreeTile};
+ghost use Rattle.tile_record.specs.Record.{RecordPromise, RecordCells, RecordAnswer, RecordLengths, recordReply, ends, cleared};
+use loops::first_left;
+use loops::loop_length;
 use promise::Found;
+use scan::scan;
 use sheet::shape::Tile;
 use sheet::shape::TileMade;
 use sheet::totals::clear;
 use sheet::totals::first_bad_code;
 use tile::border::border_cells;
+use tile_bytes::write_counts;
+use tile_bytes::write_sides;
+use tile_ways::write_ways;
 
 // The paper's replies to writing a record.
 pub enum RecordReply {

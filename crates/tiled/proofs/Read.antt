@@ -19,9 +19,9 @@ use Rattle.tile.specs.Border.{borderCells, borderPlace}
 use Rattle.tile.specs.Way.{wayAt}
 use Rattle.tile.proofs.Borders.{place-in}
 use Rattle.tile.proofs.Cells.{cells-most}
-use Rattle.tile_record.specs.Bytes.{recordBytes}
-use Rattle.tile_record.proofs.Each.{record-long}
-use Rattle.tile_record.proofs.Read as R
+use Rattle.tile_bytes.specs.Bytes.{recordBytes}
+use Rattle.tile_bytes.proofs.Each.{record-long}
+use Rattle.tile_bytes.proofs.Read as R
 use Rattle.tiled.specs.Run.{CutSheet, Writing, recordsOf}
 use Rattle.tiled.proofs.Steps.{tile-shape, Wrote}
 use Rattle.tiled.proofs.Strung.{strung-long, strung-at}

@@ -10,7 +10,7 @@ use lib.Seq.{getD-append-add}
 use Rattle.flow.specs.Net.{sum}
 use Rattle.flow.proofs.Sum.{same, sum-suc}
 use Rattle.mosaic.proofs.Pieces.{piece-below}
-use Rattle.tile_record.specs.Bytes.{each}
+use Rattle.tile_bytes.specs.Bytes.{each}
 
 module _ (f : ℕ → List ℕ) where
   pub strung-long : (n : ℕ) → length (each n f) ≡ sum n (λ u. length (f u))

@@ -11,7 +11,7 @@ use Rattle.mosaic_join.specs.Joining.{JoinOutcome, JoinPromise, Work}
 use Rattle.promise.specs.Reply.{Reply, numberOf}
 use Rattle.sheet.specs.Sheet.{CodeOk, countAt, SheetOnLoop}
 use Rattle.tile_finish.specs.Finish.{FinishOutcome, FinishLengths, FinishPromise}
-use Rattle.tile_record.specs.Bytes.{each}
+use Rattle.tile_bytes.specs.Bytes.{each}
 use Rattle.tile_record.specs.Record.{RecordOutcome, RecordLengths, RecordPromise}
 
 module _ (I J : ℕ) (hs ws : ℕ → ℕ) (sheet : List ℕ) (tiles : ℕ → List ℕ) where

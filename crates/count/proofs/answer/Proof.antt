@@ -1,7 +1,8 @@
 -- `count::answer` meets its contract: a land cell is left, or none.
 -- Assumes nothing.
 use mathlib.Core.List.{[]}
-use Rattle.count.proofs.Answers.{left-on-loop, answers-loop, answers-done}
+use Rattle.count.proofs.Answers.{answers-loop, answers-done}
+use Rattle.loops.proofs.First.{left-on-loop}
 use borrow.Author.Needs.{needs}
 use Rattle.count.proofs.answer.Statement.{statement}
 use Rattle.count.proofs.answer.Tie as tie

@@ -6,7 +6,7 @@ use Prim.Native.Nat.{ℕ}
 use Rattle.promise.specs.Links.UnlessAll.{refused-at, met-all}
 use native.Mathlib.Omega.{arith}
 use Rattle.sheet.proofs.Places.{laid-of}
-use Rattle.count.proofs.Scan.{plain-fits}
+use Rattle.scan.proofs.Scanning.{plain-fits}
 use borrow.Author.Needs.{needs}
 use Rattle.count.proofs.count_cells.Statement.{statement}
 use Rattle.count.proofs.count_cells.Tie as tie

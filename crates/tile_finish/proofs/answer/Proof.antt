@@ -4,7 +4,7 @@ use mathlib.Core.Path.{_∙_, ap}
 use Prim.Native.Nat.{ℕ}
 use native.Mathlib.Omega.{arith}
 use lib.ListN.{replicate}
-use Rattle.count.proofs.Answers.{left-on-loop}
+use Rattle.loops.proofs.First.{left-on-loop}
 use Rattle.sheet.proofs.Places.{laid-of}
 use Rattle.tile_finish.proofs.Answers.{answers-loop, answers-done}
 use borrow.Author.Needs.{needs}

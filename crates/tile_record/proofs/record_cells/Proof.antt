@@ -5,7 +5,7 @@ use native.Mathlib.Omega.{arith}
 use lib.ListN.{length, length-replicate}
 use Rattle.promise.specs.Links.UnlessAll.{refused-at, met-all}
 use Rattle.sheet.proofs.Places.{laid-of}
-use Rattle.count.proofs.Scan.{plain-fits}
+use Rattle.scan.proofs.Scanning.{plain-fits}
 use Rattle.tile_record.proofs.Answers.{cleared-is}
 use borrow.Author.Needs.{needs}
 use Rattle.tile_record.proofs.record_cells.Statement.{statement}

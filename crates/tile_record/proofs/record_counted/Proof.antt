@@ -6,7 +6,7 @@ use Prim.Native.Nat.{_*_}
 use native.Mathlib.Omega.{arith}
 use lib.ListN.{length}
 use Rattle.sheet.proofs.Places.{laid-of}
-use Rattle.count.proofs.Answers.{left-on-loop}
+use Rattle.loops.proofs.First.{left-on-loop}
 use Rattle.tile_record.proofs.Answers.{cleared-is, answers-loop, free-tile, answers-done}
 use borrow.Author.Needs.{needs}
 use Rattle.tile_record.proofs.record_counted.Statement.{statement}

@@ -2,8 +2,8 @@
 -- Assumes nothing.
 use native.Mathlib.Omega.{arith}
 use Rattle.tile.specs.Border.{borderCells}
-use Rattle.tile_record.proofs.Each.{counts-long}
-use Rattle.tile_record.proofs.Last.{known-none}
+use Rattle.tile_bytes.proofs.Each.{counts-long}
+use Rattle.tile_ways.proofs.Last.{known-none}
 use Rattle.tile_record.proofs.Whole.{whole}
 use borrow.Author.Needs.{needs}
 use Rattle.tile_record.proofs.write_fields.Statement.{statement}
