@@ -164,7 +164,8 @@ size_t drainage_join_work5(size_t border_cells);
  * then, for each record in turn, whichever is met first:
  * 8 record  a field is cut short or has another tag, length or contents than drainage_record writes: sides not within
  *           1 to 256, a count above the tile's number of cells, an absent mark without a count of 0 or a count of 0
- *           without it, a way that is not that of an exit of the tile; value[0] the first byte of that field.
+ *           without it, a way other than the two marks that names no border cell with the same way, or whose code does
+ *           not step outside the tile from there; value[0] the first byte of that field.
  *           Or there are bytes after the last record; value[0] the first of them
  * 9 layout  the record is not that of the tile whose turn it is, or has other rows than its tile row or other columns
  *           than its tile column, or the tiles so far have more than 4096 rows or columns together; value[0] the first

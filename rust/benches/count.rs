@@ -1,5 +1,5 @@
 //! Times counting of the greatest sheets against a straightforward look-around counter in plain Rust, built at the same
-//! optimisation level: `cargo bench --offline`. A number as argument says how many rounds are run, 7 if none does.
+//! optimisation level: `cargo bench --offline --bench count`. A number as argument says how many rounds are run, 7 if none does.
 
 #[path = "../tests/common/mod.rs"]
 mod common;

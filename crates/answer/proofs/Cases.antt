@@ -1,8 +1,7 @@
 -- CASE H, the program's own text: the promise admits the paper's whole output, and by answer-one no other.
 -- Assumes nothing.
-use mathlib.Core.Bool.{true}
 use mathlib.Core.List.{List, [], _∷_}
-use mathlib.Core.Path.{_≡_, refl}
+use mathlib.Core.Path.{refl}
 use Prim.Native.Nat.{ℕ, _<_}
 use native.Mathlib.Omega.{arith}
 use Rattle.promise.specs.Links.Unless.{met}

@@ -2,7 +2,7 @@
 -- Assumes nothing.
 use mathlib.Core.List.{List}
 use mathlib.Core.Path.{_≡_, sym, ap, _∙_}
-use Prim.Native.Nat.{ℕ, _+_, _*_, _<_}
+use Prim.Native.Nat.{ℕ, _+_, _*_}
 use lib.ListN.{length}
 use lib.Seq.{ext-getD}
 use Rattle.promise.specs.Links.{AtMostOne}
@@ -11,7 +11,8 @@ use Rattle.sheet.proofs.Passes.{sheet-counts-unique}
 use Rattle.sheet.proofs.Unique.{loop-one}
 use Rattle.text.specs.Text.{Proper, NoFirstLine}
 use Rattle.text.proofs.Single.{stops-one, first-line-one, holds-one}
-use Rattle.answer.specs.Answer.{CountsOf, Told, AnswerPromise, Answers}
+use Rattle.answer.specs.Answer.{Told, AnswerPromise, Answers}
+use Rattle.sheet.specs.Sheet.{CountsOf}
 
 counts-of-one : (rows cols : ℕ) (codes : List ℕ) → length codes ≡ rows * cols → AtMostOne (CountsOf rows cols codes)
 counts-of-one rows cols codes long c d a b =

@@ -1,9 +1,8 @@
 -- From what reading a text and counting its codes answer, to the promise of the count program.
 -- Assumes nothing.
-use mathlib.Core.Bool.{true, false}
-use mathlib.Core.List.{List, [], _∷_, _++_, map}
+use mathlib.Core.List.{List, [], _∷_, map}
 use mathlib.Core.Logic.{inl, inr}
-use mathlib.Core.Path.{_≡_, refl, sym, ap, _∙_}
+use mathlib.Core.Path.{_≡_, refl, ap, _∙_}
 use Prim.Native.Nat.{ℕ, suc, _+_, _*_, _^_, _<_, _≤_}
 use native.Mathlib.Omega.{arith}
 use lib.ListN.{length, take, drop, getD, length-map, length-append, List·getD-eq-default}
@@ -17,8 +16,8 @@ use Rattle.promise.proofs.Apart.{unless-ok}
 use Rattle.flow.specs.Net.{on}
 use Rattle.flow.proofs.Bound.{on-le}
 use Rattle.flow.proofs.Sum.{sum-mono, sum-ones}
-use Rattle.sheet.specs.Shape.{Within, SheetShape}
-use Rattle.sheet.specs.Sheet.{SheetCounts, SheetLengths, passes, countAt}
+use Rattle.sheet.specs.Shape.{SheetShape}
+use Rattle.sheet.specs.Sheet.{SheetCounts, passes}
 use Rattle.sheet.proofs.Passes.{count-is-passing}
 use Rattle.count.specs.Count.{CountPromise, CountCells, CountOutcome, ends}
 use Rattle.text.specs.Text.{lines, Sides, FirstLine, Proper, StopsAt}
@@ -29,7 +28,7 @@ use Rattle.text.proofs.Decimal.{below?}
 use Rattle.text.proofs.Proper.{sides}
 use Rattle.show.specs.Show.{refusal, Wrote}
 use Rattle.show.proofs.Wrote.{lines-most}
-use Rattle.answer.specs.Answer.{Told, AnswerPromise}
+use Rattle.answer.specs.Answer.{Told}
 use Rattle.answer.specs.Parts.{shown, Lent, Tells, Writes}
 use Rattle.answer.proofs.Kept.{kept-told}
 

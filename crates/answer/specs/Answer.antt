@@ -6,15 +6,10 @@ use Prim.Native.Nat.{ℕ, _*_, _≤_}
 use lib.ListN.{length, replicate}
 use Rattle.promise.specs.Links.{Unless, UnlessAll, UnlessSome, Given, Exactly, _then_}
 use Rattle.sheet.specs.Shape.{Within}
-use Rattle.sheet.specs.Sheet.{CodeOk, LoopIn, SheetCounts}
+use Rattle.sheet.specs.Sheet.{CodeOk, LoopIn, CountsOf}
 use Rattle.sheet.specs.Totals.{landCells, outlets, greatestCount}
 use Rattle.text.specs.Text.{FirstLine, NoFirstLine, Holds, Proper, StopsAt}
 use Rattle.show.specs.Show.{refusal, done, Wrote}
-
--- the counts of a sheet: one for each place, and equation 1 at every place
-pub record CountsOf (rows cols : ℕ) (codes counts : List ℕ) : Type 0 where
-  pub long : length counts ≡ rows * cols
-  pub equation : SheetCounts rows cols codes counts
 
 -- of a text that holds these codes: 3, 4, done
 abbrev pub Told : (rows cols : ℕ) (codes said : List ℕ) → Type 0

@@ -1,4 +1,4 @@
--- What the private functions of the count program promise each other. Nothing here is cited by the public promise.
+-- What the functions of the count program promise each other. Nothing here is cited by a public promise.
 -- Assumes nothing.
 use mathlib.Core.List.{List}
 use mathlib.Core.Path.{_≡_}

@@ -2,23 +2,23 @@
 -- steps a cell's own code picks one, and of all cells one alone lies a given step before p.
 -- Assumes nothing.
 use mathlib.Core.Path.{_≡_, refl, sym, ap, _∙_}
-use mathlib.Core.Bool.{Bool, true, false, cond, true≢false}
+use mathlib.Core.Bool.{true, true≢false}
 use mathlib.Core.List.{List}
-use mathlib.Core.Logic.{_⊎_, inl, inr}
-use Prim.Native.Nat.{ℕ, zero, suc, _+_, _-_, _*_, _/_, _%_, _<_, _≤_}
+use mathlib.Core.Logic.{inl, inr}
+use Prim.Native.Nat.{ℕ, _+_, _-_, _*_, _/_, _%_, _<_}
 use native.Mathlib.Omega.{arith}
 use native.Mathlib.Nat.{div-add-mod'}
-use lib.Dec.{eqb, ltb}
-use lib.ListN.{length, getD}
-use borrow.Author.Tests.{eq-eqb, ne-eqb, eqb-true}
+use lib.Dec.{eqb}
+use lib.ListN.{length}
+use borrow.Author.Tests.{eq-eqb, ne-eqb}
 use Rattle.flow.specs.Net.{on, sum, given}
-use Rattle.flow.proofs.Sum.{test, same, on-on, on-true, on-false, on-eq, on-ne, sum-ext, sum-none, sum-swap, sum-delta, sum-delta-out}
+use Rattle.flow.proofs.Sum.{test, same, on-on, on-true, on-false, on-ne, sum-ext, sum-none, sum-swap, sum-delta, sum-delta-out}
 use Rattle.flow.proofs.Walk.{below}
 use Rattle.sheet.specs.Compass.{stepAt, stepOf, lineOf, isArrow}
-use Rattle.sheet.specs.Leaves.{Place, lift, within}
+use Rattle.sheet.specs.Leaves.{Place, lift}
 use Rattle.around.specs.Around.{opposite, comesFrom, adds, term}
 use Rattle.sheet.specs.Sheet.{codeAt, landAt, stepFrom, destOf}
-use Rattle.sheet.proofs.Table.{below8, line-code, line-hit, line-arrow, arrow-line, line-step}
+use Rattle.sheet.proofs.Table.{below8, line-code, line-hit, line-arrow, arrow-line}
 use Rattle.sheet.proofs.Signed.{step-is, down, right}
 use Rattle.sheet.proofs.Places.{row-lt, col-lt, row-of, col-of, within-true, true-within}
 use Rattle.sheet.proofs.Dest.{both-on, no-land, dest-absent, dest-land, dest-out, to-land}

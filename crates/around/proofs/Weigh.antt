@@ -1,16 +1,16 @@
 -- Counts weighed so that one sum of eight tells whether a giver has no count yet and, where none lacks it, the sum of their counts.
 -- Assumes nothing.
 use mathlib.Core.Path.{_≡_, refl, sym, ap, _∙_}
-use mathlib.Core.Bool.{Bool, true, false, cond, true≢false}
+use mathlib.Core.Bool.{Bool, true, false, true≢false}
 use mathlib.Core.List.{List}
-use mathlib.Core.Logic.{_⊎_, inl, inr}
+use mathlib.Core.Logic.{inl, inr}
 use Prim.Native.Nat.{ℕ, _+_, _*_, _%_, _<_, _≤_}
 use native.Mathlib.Omega.{arith}
 use lib.Dec.{eqb}
 use lib.ListN.{length, getD}
 use borrow.Author.Tests.{eqb-true, eq-eqb, ne-eqb}
 use Rattle.flow.specs.Net.{on, sum, given}
-use Rattle.flow.proofs.Sum.{test, same, on-true, on-eq, on-ne, sum-ext, sum-add, sum-at-least, sum-mono, sum-some, sum-times}
+use Rattle.flow.proofs.Sum.{same, on-true, on-eq, on-ne, sum-ext, sum-add, sum-mono, sum-some, sum-times}
 use Rattle.flow.proofs.Count.{gives}
 use Rattle.sheet.specs.Leaves.{Place}
 use Rattle.around.specs.Around.{LooksAround, adds, term, comesFrom, weigh, weighed}

@@ -12,19 +12,11 @@ use Rattle.promise.specs.Links.UnlessAll.{met-all}
 use Rattle.promise.specs.Reply.{Reply}
 use Rattle.promise.specs.Reply.Reply.{reply}
 use Rattle.promise.proofs.Apart.{number-same, unless-met, unless-all-met}
-use Rattle.sheet.specs.Shape.{SheetShape}
-use Rattle.sheet.specs.Sheet.{CodeOk, SheetLengths, SheetCounts, SheetNoLoop, landAt, countAt}
+use Rattle.sheet.specs.Sheet.{SheetNoLoop, landAt, countAt}
 use Rattle.sheet.proofs.Given.{given-absent}
 use Rattle.sheet.proofs.Passes.{counts-no-loop}
-use Rattle.checking.specs.Check.{CheckPromise, CountOk}
+use Rattle.checking.specs.Check.{CheckPromise, CountOk, Right}
 use Rattle.checking.proofs.One.{check-one}
-
--- shape, lengths and codes are right, and the counts are those of equation 1
-pub record Right (rows cols : ℕ) (grid counts : List ℕ) : Type 0 where
-  pub shape : SheetShape rows cols
-  pub lengths : SheetLengths rows cols grid counts
-  pub codes : (p : ℕ) → p < rows * cols → CodeOk grid p
-  pub equation : SheetCounts rows cols grid counts
 
 -- an absent cell must hold 0
 pub absent-must-be-0 : (rows cols : ℕ) (grid counts : List ℕ) (p : ℕ) → p < rows * cols → landAt grid p ≡ false → CountOk rows cols grid counts p ↔ (countAt counts p ≡ 0)

@@ -1,4 +1,4 @@
--- What the private functions of checking promise each other. Nothing here is cited by the public promise.
+-- What the functions of checking promise each other. Nothing here is cited by a public promise.
 -- Assumes nothing.
 use mathlib.Core.Bool.{Bool}
 use mathlib.Core.List.{List}

@@ -1,7 +1,7 @@
 -- What is said once the scan is over, link by link of the promise.
 -- Assumes nothing.
 use mathlib.Core.List.{List, [], _∷_}
-use mathlib.Core.Path.{_≡_, refl, sym, ap, _∙_}
+use mathlib.Core.Path.{_≡_, sym, ap, _∙_}
 use Prim.Native.Nat.{ℕ, _*_, _<_}
 use native.Mathlib.Omega.{arith}
 use lib.ListN.{length, replicate}
@@ -12,7 +12,7 @@ use Rattle.flow.specs.Net.{number, loopLength}
 use Rattle.flow.proofs.Loop.{first-loop-free}
 use Rattle.sheet.specs.Sheet.{landAt, destOf, countAt}
 use Rattle.sheet.specs.Totals.{greatestBelow}
-use Rattle.count.specs.Count.{Answered, CountOutcome, ends}
+use Rattle.count.specs.Count.{Answered, ends}
 use Rattle.scan.specs.Scan.{Counting, found}
 use Rattle.scan.proofs.Scanning.{none-left, all-found}
 use Rattle.loops.specs.Left.{NotLeft}

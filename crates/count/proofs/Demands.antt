@@ -1,5 +1,5 @@
--- Demand 2 for whole sheets, in the user's words, of every outcome that the promise of counting admits.
--- (That what is left at 0 after the scan is exactly the loop cells is `zero-left-iff-loop`, in Scan.antt.)
+-- Demand 2 for whole sheets, in the demand's words, of every outcome that the promise of counting admits.
+-- (That what is left at 0 after the scan is exactly the loop cells is `zero-left-iff-loop`, in crate scan.)
 -- Assumes nothing.
 use mathlib.Core.List.{List}
 use mathlib.Core.Logic.{_↔_}

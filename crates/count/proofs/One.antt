@@ -2,7 +2,7 @@
 -- Assumes nothing.
 use mathlib.Core.Bool.{cond}
 use mathlib.Core.List.{List}
-use mathlib.Core.Path.{_≡_, refl, sym, ap, _∙_}
+use mathlib.Core.Path.{_≡_, refl, sym, _∙_}
 use Prim.Native.Nat.{ℕ, _*_}
 use lib.Dec.{eqb}
 use lib.ListN.{length, getD}
@@ -11,7 +11,7 @@ use Rattle.promise.specs.Reply.{Reply}
 use Rattle.promise.specs.Reply.Reply.{reply}
 use Rattle.promise.proofs.One.{unless-one, unless-one-met, unless-all-one, unless-some-one, one-value}
 use Rattle.sheet.proofs.Unique.{loop-one, counts-one}
-use Rattle.count.specs.Count.{CountPromise, CountOutcome, Counted, countReply, ends}
+use Rattle.count.specs.Count.{CountPromise, Counted, countReply, ends}
 use Rattle.count.specs.declared.CountReply.{CountReply}
 use Rattle.count.specs.declared.CountReply.the-variants.{Done, Shape, Length, Code, Loop}
 

@@ -3,16 +3,21 @@
 -- Assumes nothing.
 use mathlib.Core.List.{List}
 use mathlib.Core.Logic.{_↔_}
-use mathlib.Core.Path.{_≡_, sym, ap, _∙_}
+use mathlib.Core.Path.{_≡_, ap, _∙_}
 use Prim.Native.Nat.{ℕ, _*_, _<_}
 use lib.ListN.{length}
 use lib.Seq.{getD-set-other}
-use Rattle.sheet.specs.Sheet.{codeAt, countAt, Downstream, SheetNoLoop}
+use Rattle.flow.proofs.Alike.{alike-sym}
+use Rattle.flow.proofs.Close.{loops-through}
+use Rattle.sheet.specs.Sheet.{codeAt, countAt, destOf, Downstream, SheetOnLoop, SheetNoLoop}
+use Rattle.sheet.proofs.Change.{changed-alike, changed-long}
+use Rattle.sheet.proofs.Dest.{dest-beyond}
 use Rattle.sheet.proofs.Passes.{counts-no-loop}
 use Rattle.sheet.proofs.Unique.{counts-one}
 use Rattle.count.specs.Count.{CountPromise, CountOutcome}
 use Rattle.count.proofs.Demands as C
-use Rattle.mend.specs.Mend.{MendPromise, MendOutcome, changed}
+use Rattle.checking.specs.Check.{Right}
+use Rattle.mend.specs.Mend.{MendPromise, MendOutcome, Mendable, changed}
 use Rattle.mend.proofs.Demands as M
 use Rattle.demands.specs.Said.{Done, RefusedForLoop}
 use Rattle.demands.specs.Sheets.{Permitted, ArrowsFormLoop}
@@ -20,7 +25,7 @@ use Rattle.demands.proofs.Counting.{otherwise-done, counts-as-published
 
 module _ (rows cols : ℕ) (grid counts : List ℕ) (place code : ℕ) (e : MendOutcome) (kept : MendPromise rows cols grid counts place code e) where
   module _ (done : Done (e .said)) where
-    right-after : M.Right rows cols (e .grid) (e .counts)
+    right-after : Right rows cols (e .grid) (e .counts)
     right-after = M.mended-right rows cols grid counts place code e kept done
 
     -- THE GRID HOLDS THE NEW CODE at that cell
@@ -45,7 +50,7 @@ module _ (rows cols : ℕ) (grid counts : List ℕ) (place code : ℕ) (e : Mend
     no-other-count = M.mended-only rows cols grid counts place code e kept done
 
   -- where grid, counts, place and code are right
-  module _ (m : M.Mendable rows cols grid counts place code) where
+  module _ (m : Mendable rows cols grid counts place code) where
     -- there was no loop before
     pub no-loop-before : SheetNoLoop rows cols grid
     no-loop-before = counts-no-loop rows cols grid (m .right .lengths .grid-long) counts (m .right .equation)
@@ -53,6 +58,16 @@ module _ (rows cols : ℕ) (grid counts : List ℕ) (place code : ℕ) (e : Mend
     -- MENDING IS REFUSED FOR A LOOP exactly when the change closes one
     pub refused-exactly-when-a-loop-closes : RefusedForLoop (e .said) ↔ ArrowsFormLoop rows cols (changed grid place code)
     refused-exactly-when-a-loop-closes = M.mend-loop-iff rows cols grid counts place code e kept m
+
+    -- and each loop goes through the changed cell
+    pub loops-go-through : (p : ℕ) → SheetOnLoop rows cols (changed grid place code) p
+        → Downstream rows cols (changed grid place code) place p × Downstream rows cols (changed grid place code) p place
+    loops-go-through p on =
+        let long = m .right .lengths .grid-long in
+        let out = dest-beyond rows cols (changed grid place code) (changed-long rows cols grid place code (m .inside) long) in
+        let alike = alike-sym (rows * cols) place (destOf rows cols grid) (destOf rows cols (changed grid place code)) (changed-alike rows cols grid place code) in
+        let (a, b) = loops-through (rows * cols) place (destOf rows cols (changed grid place code)) (destOf rows cols grid) out (m .inside) alike no-loop-before p on in
+        ((on .0, a), (m .inside, b))
 
   -- THEN GRID AND COUNTS ARE AS LENT, as after every refusal
   pub refused-all-as-lent : (Done (e .said) → ⊥) → (e .grid ≡ grid) × (e .counts ≡ counts)

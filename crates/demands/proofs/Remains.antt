@@ -2,7 +2,8 @@
 -- do the counts that counting or finishing would have written and the incoming that joining would have written; a record buffer is unchanged. Mending with 4
 -- leaves grid and counts as they were lent. After 0 any extra work buffer holds 0. Checking is lent nothing to write to.
 -- Assumes nothing.
-use mathlib.Core.List.{List}
+use mathlib.Core.Bool.{true, false, true≢false}
+use mathlib.Core.List.{List, [], _∷_}
 use mathlib.Core.Path.{_≡_, refl, sym, ap, _∙_}
 use Prim.Native.Nat.{ℕ, zero, suc, _*_, _/_, _%_}
 use native.Mathlib.Omega.{arith}
@@ -17,12 +18,14 @@ use Rattle.mosaic_read.specs.Read.{faultAt}
 use Rattle.sheet.specs.Sheet.{SheetCounts}
 use Rattle.tile_finish.specs.Finish.{FinishPromise, FinishOutcome}
 use Rattle.tile_record.specs.Record.{RecordPromise, RecordOutcome}
-use Rattle.demands.specs.Said.{Done, RefusedForLoop, RefusedElse, Remains, zeros}
+use Rattle.demands.specs.Said.{Done, Remains, zeros, oneOf}
 
 -- what the link of a refusal, of 4 and of done says of the buffers
 module _ {B : Type 0} {lent looped : B} {AtDone : B → Type 0} where
-  else-lent : {n : ℕ} {vs : List ℕ} → (n ≡ 0 → ⊥) → (n ≡ 4 → ⊥) → Remains (reply n vs) lent looped AtDone lent
-  else-lent zero-no four-no = record { refused-else = λ h. refl; for-loop = λ h. absurd (four-no h); done = λ h. absurd (zero-no h) }
+  lent-else : {n : ℕ} {vs : List ℕ} → oneOf (0 ∷ 4 ∷ []) n ≡ false → Remains (reply n vs) lent looped AtDone lent
+  lent-else {n} e =
+      let other : (m : ℕ) → oneOf (0 ∷ 4 ∷ []) m ≡ true → n ≡ m → ⊥ = λ m k h. true≢false (sym k ∙ ap (oneOf (0 ∷ 4 ∷ [])) (sym h) ∙ e) in
+      record { refused-else = λ h. refl; for-loop = λ h. absurd (other 4 refl h); done = λ h. absurd (other 0 refl h) }
 
   for-four : {vs : List ℕ} → Remains (reply 4 vs) lent looped AtDone looped
   for-four = record { refused-else = λ h. absurd (h .1 refl); for-loop = λ h. refl; done = λ h. absurd (let z : _≡_ {A = ℕ} 4 0 = h in omega arith) }
@@ -39,8 +42,8 @@ pub counting-remains : (rows cols : ℕ) (grid counts : List ℕ) (e : CountOutc
     → Remains (e .said) counts (zeros (rows * cols)) (SheetCounts rows cols grid) (e .counts)
 counting-remains rows cols grid counts e =
     let P : CountOutcome → Type 0 = λ e. Remains (e .said) counts (zeros (rows * cols)) (SheetCounts rows cols grid) (e .counts) in
-    unless-each P (else-lent (λ h. omega arith) (λ h. omega arith)) (unless-each P (else-lent (λ h. omega arith) (λ h. omega arith))
-    (unless-all-each P (λ p. else-lent (λ h. omega arith) (λ h. omega arith)) (unless-some-each P (λ v. for-four) (λ d. at-done (d .said-is) (d .equation)))))
+    unless-each P (lent-else refl) (unless-each P (lent-else refl)
+    (unless-all-each P (λ p. lent-else refl) (unless-some-each P (λ v. for-four) (λ d. at-done (d .said-is) (d .equation)))))
 
 -- mending: grid and counts
 pub mending-remains : (rows cols : ℕ) (grid counts : List ℕ) (place code : ℕ) (e : MendOutcome) → MendPromise rows cols grid counts place code e
@@ -52,13 +55,13 @@ module _ (rows cols tileRow tileCol : ℕ) (grid bytes work1 work2 : List ℕ) w
   abbrev RecordRemains : RecordOutcome → Type 0
   RecordRemains e =
       Remains (e .said) (bytes, work1, work2) (bytes, zeros (rows * cols), zeros (rows * cols))
-      (λ (b : List ℕ × List ℕ × List ℕ). (b .1 .0 ≡ zeros (rows * cols)) × (b .1 .1 ≡ zeros (rows * cols))) (e .bytes, e .work1, e .work2)
+      (λ (b : List ℕ × List ℕ × List ℕ). (b .1 ≡ zeros (rows * cols)) × (b .2 ≡ zeros (rows * cols))) (e .bytes, e .work1, e .work2)
 
   pub recording-remains : (e : RecordOutcome) → RecordPromise rows cols tileRow tileCol grid bytes work1 work2 e → RecordRemains e
   recording-remains e =
       let P = RecordRemains in
-      unless-each P (else-lent (λ h. omega arith) (λ h. omega arith)) (unless-each P (else-lent (λ h. omega arith) (λ h. omega arith))
-      (unless-each P (else-lent (λ h. omega arith) (λ h. omega arith)) (unless-all-each P (λ p. else-lent (λ h. omega arith) (λ h. omega arith))
+      unless-each P (lent-else refl) (unless-each P (lent-else refl)
+      (unless-each P (lent-else refl) (unless-all-each P (λ p. lent-else refl)
       (unless-some-each P (λ v. for-four) (λ d. at-done (d .said-is) (d .work1-clear, d .work2-clear))))))
 
 -- finishing: the counts and a work buffer; incoming is only read
@@ -71,8 +74,8 @@ module _ (rows cols : ℕ) (grid incoming counts work : List ℕ) where
   pub finishing-remains : (e : FinishOutcome) → FinishPromise rows cols grid incoming counts work e → FinishRemains e
   finishing-remains e =
       let P = FinishRemains in
-      unless-each P (else-lent (λ h. omega arith) (λ h. omega arith)) (unless-each P (else-lent (λ h. omega arith) (λ h. omega arith))
-      (unless-all-each P (λ p. else-lent (λ h. omega arith) (λ h. omega arith)) (unless-all-each P (λ b. else-lent (λ h. omega arith) (λ h. omega arith))
+      unless-each P (lent-else refl) (unless-each P (lent-else refl)
+      (unless-all-each P (λ p. lent-else refl) (unless-all-each P (λ b. lent-else refl)
       (unless-some-each P (λ v. for-four) (λ d. at-done (d .said-is) (d .work-clear))))))
 
 -- joining: incoming and five work buffers
@@ -83,14 +86,14 @@ module _ (I J : ℕ) (bytes incoming : List ℕ) (work : Work) where
       (λ (b : List ℕ × Work). b .1 ≡ cleared I J bytes) (e .incoming, e .work)
 
   fault-lent : (t part : ℕ) → JoinRemains (ends (faultAt bytes t part) incoming work)
-  fault-lent t zero = else-lent (λ h. omega arith) (λ h. omega arith)
-  fault-lent t (suc zero) = else-lent (λ h. omega arith) (λ h. omega arith)
-  fault-lent t (suc (suc zero)) = else-lent (λ h. omega arith) (λ h. omega arith)
-  fault-lent t (suc (suc (suc more))) = else-lent (λ h. omega arith) (λ h. omega arith)
+  fault-lent t zero = lent-else refl
+  fault-lent t (suc zero) = lent-else refl
+  fault-lent t (suc (suc zero)) = lent-else refl
+  fault-lent t (suc (suc (suc more))) = lent-else refl
 
   pub joining-remains : (e : JoinOutcome) → JoinPromise I J bytes incoming work e → JoinRemains e
   joining-remains e =
       let P = JoinRemains in
-      unless-each P (else-lent (λ h. omega arith) (λ h. omega arith)) (unless-all-each P (λ m. fault-lent (m / 4) (m % 4))
-      (unless-each P (else-lent (λ h. omega arith) (λ h. omega arith)) (unless-each P (else-lent (λ h. omega arith) (λ h. omega arith))
+      unless-each P (lent-else refl) (unless-all-each P (λ m. fault-lent (m / 4) (m % 4))
+      (unless-each P (lent-else refl) (unless-each P (lent-else refl)
       (unless-some-each P (λ v. for-four) (λ d. at-done (d .said-is) (d .work-clear))))))

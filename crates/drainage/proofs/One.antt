@@ -1,8 +1,8 @@
 -- A length that is told for a tile is one number only.
 -- Assumes nothing.
 use mathlib.Core.Logic.{_⊎_, inl, inr}
-use mathlib.Core.Path.{_≡_, sym, _∙_}
-use Prim.Native.Nat.{ℕ, _≤_}
+use mathlib.Core.Path.{sym, _∙_}
+use Prim.Native.Nat.{ℕ}
 use native.Mathlib.Omega.{arith}
 use Rattle.flow.proofs.Walk.{below}
 use Rattle.promise.specs.Links.{AtMostOne}

@@ -1,6 +1,5 @@
 -- A reply as C and Rust see it: the paper's number and up to six values, 0 where there is none.
 -- Assumes nothing.
-use Prim.Native.Nat.{ℕ}
 use lib.ListN.{getD}
 use Rattle.promise.specs.Reply.{Reply}
 use Rattle.promise.specs.Reply.Reply.{reply}

@@ -15,10 +15,6 @@ use Rattle.flow.proofs.Passes.{counts-passes}
 abbrev pub Alike : ℕ → ℕ → (ℕ → ℕ) → (ℕ → ℕ) → Type 0
 Alike n t to to' = (q r : ℕ) → q < n → r < n → (q ≡ t → ⊥) → (r ≡ t → ⊥) → (to q ≡ r) ↔ (to' q ≡ r)
 
--- nets that agree at each cell but t
-pub alike-of : (n t : ℕ) (to to' : ℕ → ℕ) → ((q : ℕ) → q < n → (q ≡ t → ⊥) → to' q ≡ to q) → Alike n t to to'
-alike-of n t to to' h q r lq lr dq dr = (λ e. h q lq dq ∙ e, λ e. sym (h q lq dq) ∙ e)
-
 -- either way round
 pub alike-sym : (n t : ℕ) (to to' : ℕ → ℕ) → Alike n t to to' → Alike n t to' to
 alike-sym n t to to' h q r lq lr dq dr = let (a, b) = h q r lq lr dq dr in (b, a)

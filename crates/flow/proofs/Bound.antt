@@ -7,10 +7,9 @@ use native.Mathlib.Omega.{arith}
 use lib.Dec.{eqb, ltb}
 use borrow.Author.Tests.{lt-ltb, le-ltb}
 use Rattle.flow.specs.Net.{on, sum, given, Counts, NoLoop, downb}
-use Rattle.flow.proofs.Sum.{on-true, on-false, on-on, on-split, eqb-sym, sum-ext, sum-add, sum-mono, sum-swap, sum-delta, sum-delta-out}
+use Rattle.flow.proofs.Sum.{on-true, on-false, on-split, eqb-sym, sum-ext, sum-add, sum-mono, sum-swap, sum-delta, sum-delta-out}
 use Rattle.flow.proofs.Walk.{below}
-use Rattle.flow.proofs.Through.{through, through-add}
-use Rattle.flow.proofs.Passes.{through-passes, counts-passes}
+use Rattle.flow.proofs.Passes.{counts-passes}
 
 -- a test takes away and adds nothing
 pub on-le : (b : Bool) (x : ℕ) → on b x ≤ x
@@ -41,13 +40,3 @@ module _ (n : ℕ) (to : ℕ → ℕ) (out : (p : ℕ) → n ≤ p → n ≤ to 
   counts-bound w c h p l =
       let m : sum n (λ q. on (eqb q p || downb n to q p) (w q)) ≤ sum n w = sum-mono (λ q lq. on-le (eqb q p || downb n to q p) (w q)) in
       omega (arith, counts-passes n to out free w c h p l)
-
-  -- v more at a is v more at a and at each cell downstream of a, and at no other
-  pub through-extra : (w : ℕ → ℕ) (a v : ℕ) → a < n → (p : ℕ) → p < n
-      → through n to (λ q. w q + on (eqb q a) v) p ≡ through n to w p + on (eqb a p || downb n to a p) v
-  through-extra w a v la p l =
-      through-add n to w (λ q. on (eqb q a) v) p
-      ∙ ap (λ (x : ℕ). through n to w p + x)
-      (through-passes n to out free (λ q. on (eqb q a) v) p l
-      ∙ sum-ext (λ q lq. on-on (eqb q p || downb n to q p) (eqb q a) v)
-      ∙ sum-delta n a (λ q. on (eqb q p || downb n to q p) v) la)

@@ -11,8 +11,21 @@ use Rattle.flow.proofs.Walk.{stay-out, inside-at, downb-iff}
 use Rattle.flow.proofs.Loop.{down-trans}
 use Rattle.flow.proofs.Round.{first-round, met, loop-back}
 use Rattle.flow.proofs.LoopLength.{same-length, round-length}
-use Rattle.flow.proofs.Alike.{alike-sym, same-down, away-down}
+use Rattle.flow.proofs.Alike.{Alike, alike-sym, same-down, away-down}
 use Rattle.flow.proofs.Without.{Without}
+
+-- two nets that differ at most at t and in the arrows onto it
+module _ (n t : ℕ) (to to' : ℕ → ℕ) (out : (p : ℕ) → n ≤ p → n ≤ to p) (lt : t < n) (alike : Alike n t to to') where
+  -- where one has no loop, each loop of the other goes through t
+  pub loops-through : NoLoop n to' → (p : ℕ) → OnLoop n to p → Down to t p × Down to p t
+  loops-through free p (l, d) =
+      elim (same p t) [
+        | inl e ↦ rw e (rw e at d, rw e at d)
+        | inr e ↦ elim (test (downb n to p t)) [
+          | inl h ↦ (let m : Down to p t = downb-iff n to out p t lt .0 h in (loop-back to p t d m, m))
+          | inr h ↦ absurd (free p l (away-down n t to to' out alike p p e (λ m. true≢false (sym (downb-iff n to out p t lt .1 m) ∙ h)) l d))
+        ]
+      ]
 
 -- the net to' is the net to without t
 module _ (n t : ℕ) (to w to' w' : ℕ → ℕ) (out : (p : ℕ) → n ≤ p → n ≤ to p) (out' : (p : ℕ) → n ≤ p → n ≤ to' p) (lt : t < n) (s : Without n t to w to' w') where
@@ -25,14 +38,7 @@ module _ (n t : ℕ) (to w to' w' : ℕ → ℕ) (out : (p : ℕ) → n ≤ p �
 
   -- each loop that putting t in closes goes through t
   pub closes : NoLoop n to' → (p : ℕ) → OnLoop n to p → Down to t p × Down to p t
-  closes free p (l, d) =
-      elim (same p t) [
-        | inl e ↦ rw e (rw e at d, rw e at d)
-        | inr e ↦ elim (test (downb n to p t)) [
-          | inl h ↦ (let m : Down to p t = downb-iff n to out p t lt .0 h in (loop-back to p t d m, m))
-          | inr h ↦ absurd (free p l (away-down n t to to' out (s .alike) p p e (λ m. true≢false (sym (downb-iff n to out p t lt .1 m) ∙ h)) l d))
-        ]
-      ]
+  closes = loops-through n t to to' out lt (s .alike)
 
   -- so there is one exactly when t is then downstream of itself
   pub closes-iff : NoLoop n to' → NoLoop n to ↔ (Down to t t → ⊥)

@@ -73,10 +73,6 @@ module _ (n : ℕ) (to : ℕ → ℕ) (out : (p : ℕ) → n ≤ p → n ≤ to 
     pub last-step : (p : ℕ) → p < n → to p < n → last n to (to p) ≡ last n to p
     last-step p l b = sym (last-is p (last n to (to p)) l (end-back p _ (last-end (to p) b)))
 
-    -- a last cell is its own
-    pub last-twice : (p : ℕ) → p < n → last n to (last n to p) ≡ last n to p
-    last-twice p l = last-past n to (last n to p) (last-end p l .3)
-
     -- q's path passes the end e exactly where e is its last cell
     pub passes-last : (q e : ℕ) → q < n → e < n → n ≤ to e → (eqb q e || downb n to q e) ≡ eqb (last n to q) e
     unfolding steps

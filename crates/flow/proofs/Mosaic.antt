@@ -110,11 +110,6 @@ module _ (n : ℕ) (to : ℕ → ℕ) (cut : ℕ → Bool) (K : ℕ) (m : ℕ �
         (λ g. on (cut (at (bt g) (bx g))) (d (bt g) (bx g))) (λ e. on (cut e) (D e)) J T
         (λ g lg. ap (λ (y : ℕ). on (cut (at (bt g) (bx g))) y) (tile-count (bt g) (bx g) (s .border g lg .0) (s .border g lg .1))) joined T-counts
 
-    -- an exit's total is the whole's count there
-    pub total-count : (g : ℕ) → g < M → cut (at (bt g) (bx g)) ≡ true → J g ≡ c (at (bt g) (bx g))
-    total-count g l e =
-        total-is g l ∙ totals n to cut (s .out) free w c D hc D-counts T T-counts (at (bt g) (bx g)) (s .join .places .into g l) e
-
     -- what comes in at a cell is what the join sums over the border cells
     came-in : (p : ℕ) → incoming n to cut T p ≡ sum M (λ g. on (cut (at (bt g) (bx g)) && eqb (to (at (bt g) (bx g))) p) (J g))
     unfolding incoming

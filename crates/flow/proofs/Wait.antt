@@ -51,7 +51,3 @@ module _ (n : ℕ) (to w c d : ℕ → ℕ) (t : ℕ) (other : (q : ℕ) → q <
     ]
     | inr g ↦ inr g
   ]
-
-  -- and ends where the arrow leaves the net
-  pub waits-end : {E : ℕ → Type 0} → n ≤ to t → Waits n to w c (λ p. (p ≡ t) ⊎ E p) → Waits n to w d E
-  waits-end h s = waits-past n to w d (to t) h (waits-on s)

@@ -78,10 +78,6 @@ module _ (n t : ℕ) (to w to' w' c d : ℕ → ℕ) (lt : t < n) (s : Without n
     at = omega (arith, other (to t) l move, counts (to t) l, s .weights (to t) l move, given-put (to t) l move, on-eq (to t) (to t) (d t) refl);
   }
 
-  -- where t gives to none, these are the counts with t
-  pub put-in-end : n ≤ to t → Counts n to w d
-  put-in-end h p l = put p l (λ e. omega arith)
-
 -- t to be put in: the counts without t are off at t alone, by what t is to hold
 module _ (n t : ℕ) (to w to' w' c : ℕ → ℕ) (lt : t < n) (s : Without n t to w to' w') (counts : Counts n to' w' c) where
   holds-none : c t ≡ 0

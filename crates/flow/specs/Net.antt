@@ -1,5 +1,6 @@
 -- A net: n cells, and for each cell p the cell `to p` that its water goes to; a number that is not below n says that it goes to no cell.
--- A weight w says what each cell itself adds. Counts and loops are defined here once, for every net and every weight.
+-- A weight w says what each cell itself adds. Counts and loops are defined here once, for every net and every weight. A number that is no cell leads to no
+-- cell again: each law that needs this asks it, and each net of the crates above has it.
 -- Assumes nothing.
 use mathlib.Core.Path.{_≡_}
 use mathlib.Core.Bool.{Bool, true, false, _||_, _&&_}
@@ -26,9 +27,13 @@ number n passes = sum n (λ q. on (passes q) 1)
 unfoldable pub given : ℕ → (ℕ → ℕ) → (ℕ → ℕ) → ℕ → ℕ
 given n to c p = sum n (λ q. on (eqb (to q) p) (c q))
 
--- the count of each cell is what it adds itself, and the counts of the cells whose water goes to it
+-- the equation at cell p: its count is what it adds itself, and the counts of the cells whose water goes to it
+abbrev pub CountsAt : ℕ → (ℕ → ℕ) → (ℕ → ℕ) → (ℕ → ℕ) → ℕ → Type 0
+CountsAt n to w c p = c p ≡ w p + given n to c p
+
+-- and at every cell
 abbrev pub Counts : ℕ → (ℕ → ℕ) → (ℕ → ℕ) → (ℕ → ℕ) → Type 0
-Counts n to w c = (p : ℕ) → p < n → c p ≡ w p + given n to c p
+Counts n to w c = (p : ℕ) → p < n → CountsAt n to w c p
 
 -- ---- downstream
 
@@ -63,7 +68,7 @@ unfoldable pub downIn : (ℕ → ℕ) → ℕ → ℕ → ℕ → Bool
 downIn to zero p q = false
 downIn to (suc k) p q = let r = downIn to k (to p) q in eqb (to p) q || r
 
--- a test that q is downstream of p: on a net of n cells it is met within n steps or never
+-- a test that q is downstream of p: on a net of n cells it is met within n steps or never (`downb-iff`, proofs/Walk.antt)
 unfoldable pub downb : ℕ → (ℕ → ℕ) → ℕ → ℕ → Bool
 downb n to p q = downIn to n p q
 

@@ -15,6 +15,7 @@ unfoldable pub lastIn : ℕ → (ℕ → ℕ) → ℕ → ℕ → ℕ
 lastIn n to zero p = p
 lastIn n to (suc k) p = let r = lastIn n to k (to p) in cond (ltb (to p) n) r p
 
--- the last cell of p's path: on a net of n cells without loops it is met within n arrows
+-- the last cell of p's path: on a net of n cells without loops it is met within n arrows (`last-end` and `last-is`, proofs/Last.antt: the path ends there, and
+-- at no other cell)
 unfoldable pub last : ℕ → (ℕ → ℕ) → ℕ → ℕ
 last n to p = lastIn n to n p

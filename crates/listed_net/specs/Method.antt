@@ -1,4 +1,4 @@
--- What the private functions promise each other: the net half-way. Nothing here is cited by the public promise.
+-- What the functions promise each other and the crate that calls them: the net half-way. Nothing here is cited by a public promise.
 -- Assumes nothing.
 use mathlib.Core.Bool.{Bool, true, false}
 use mathlib.Core.List.{List}

@@ -1,6 +1,6 @@
 -- THE MARKED SHEETS: each row of the table says what is so, by the definitions of counts, loops, codes, totals, tiles and joining.
 -- Assumes nothing.
-use mathlib.Core.Path.{_≡_, refl}
+use mathlib.Core.Path.{refl}
 use Rattle.flow.specs.Net.{sum, steps, given, downIn, downb, loopLength}
 use Rattle.flow.specs.Path.{last, lastIn}
 use Rattle.flow.proofs.Test.{allb, countsb, noLoopb, onLoopb}

@@ -15,10 +15,10 @@ use Rattle.sheet.specs.Leaves.{Laid}
 use Rattle.sheet.specs.Sheet.{SheetCounts, SheetNoLoop, FirstSheetLoop}
 use Rattle.sheet.proofs.Change.{changed-long}
 use Rattle.sheet.proofs.Passes.{counts-no-loop}
-use Rattle.checking.specs.Check.{CheckPromise}
-use Rattle.checking.proofs.Demands.{Right, check-done-iff}
+use Rattle.checking.specs.Check.{CheckPromise, Right}
+use Rattle.checking.proofs.Demands.{check-done-iff}
 use Rattle.mend.specs.Mend.{MendPromise, MendCell, MendChange, MendOutcome, ends}
-use Rattle.mend.specs.Method.{Settled}
+use Rattle.sheet.specs.Sheet.{CountsOf}
 
 module _ (rows cols : ℕ) (g c : List ℕ) (t x : ℕ) where
   -- what checking refuses, mending refuses with the same reply, and nothing is changed
@@ -71,7 +71,7 @@ module _ (rows cols : ℕ) (g c : List ℕ) (t x : ℕ) where
     then-in : set h' t x ≡ set g t x
     then-in = ap (λ (y : List ℕ). set y t x) out ∙ set-set g t 255 x
 
-    pub put-ready : {d : List ℕ} → t < rows * cols → Laid rows cols g c → Settled rows cols (set h t 255) d
+    pub put-ready : {d : List ℕ} → t < rows * cols → Laid rows cols g c → CountsOf rows cols (set h t 255) d
         → Laid rows cols h' d × ((t < rows * cols) × (SheetCounts rows cols (set h' t 255) d × SheetNoLoop rows cols (set h' t x)))
     put-ready lt laid s = (
       record {
@@ -83,7 +83,7 @@ module _ (rows cols : ℕ) (g c : List ℕ) (t x : ℕ) where
       (lt, (rw (out, set-set g t 255 255, ← e) (s .equation), rw then-in free)),
     )
 
-    pub answers-mended : {h'' d' : List ℕ} → h'' ≡ set h' t x → Settled rows cols (set h' t x) d' → MendChange rows cols g c t x (ends (reply 0 []) h'' d')
+    pub answers-mended : {h'' d' : List ℕ} → h'' ≡ set h' t x → CountsOf rows cols (set h' t x) d' → MendChange rows cols g c t x (ends (reply 0 []) h'' d')
     answers-mended e'' s = met-none (λ v first. first-loop-free free first) record {
       stored = e'' ∙ then-in;
       long = s .long;

@@ -1,6 +1,6 @@
 -- What mending promises, in the words of the demand.
 -- Assumes nothing.
-use mathlib.Core.Bool.{true, false}
+use mathlib.Core.Bool.{false}
 use mathlib.Core.List.{List, []}
 use mathlib.Core.Logic.{inl, inr, _↔_}
 use mathlib.Core.Path.{_≡_, refl, sym, ap, _∙_}
@@ -24,16 +24,10 @@ use Rattle.sheet.specs.Sheet.{codeAt, destOf, unit, countAt, Downstream, SheetC
 use Rattle.sheet.proofs.Change.{changed-alike, changed-unit, changed-code}
 use Rattle.sheet.proofs.Dest.{dest-beyond}
 use Rattle.sheet.proofs.Passes.{counts-no-loop}
-use Rattle.checking.proofs.Demands.{Right}
-use Rattle.mend.specs.Mend.{MendPromise, MendOutcome, MendChange, Mended, changed, ends}
+use Rattle.checking.specs.Check.{Right}
+use Rattle.mend.specs.Mend.{MendPromise, MendOutcome, MendChange, Mended, Mendable, changed, ends}
 use Rattle.sheet.proofs.Unique.{counts-one}
 use Rattle.mend.proofs.One.{mend-one}
-
--- none of 1, 2, 3, 5, 6 and 7 applies
-pub record Mendable (rows cols : ℕ) (grid counts : List ℕ) (place code : ℕ) : Type 0 where
-  pub right : Right rows cols grid counts
-  pub inside : place < rows * cols
-  pub code-ok : isCode code ≡ true
 
 module _ (rows cols : ℕ) (grid counts : List ℕ) (place code : ℕ) where
   mendable-long : Mendable rows cols grid counts place code → length (changed grid place code) ≡ rows * cols

@@ -1,6 +1,3 @@
-pub mod Owes
-pub mod Following
-pub mod Moves
 pub mod Answers
 pub mod One
 pub mod Demands

@@ -11,7 +11,7 @@ use Rattle.promise.specs.Reply.Reply.{reply}
 use Rattle.sheet.specs.Compass.{isCode}
 use Rattle.sheet.specs.Shape.{SheetShape}
 use Rattle.sheet.specs.Sheet.{CodeOk, SheetCounts, SheetLengths, LoopIn}
-use Rattle.checking.specs.Check.{CountOk}
+use Rattle.checking.specs.Check.{CountOk, Right}
 use Rattle.mend.specs.declared.MendReply.{MendReply}
 use Rattle.mend.specs.declared.MendReply.the-variants.{Done, Shape, Length, Code, Count, Place, NewCode, Loop}
 
@@ -67,3 +67,11 @@ MendPromise rows cols grid counts place code =
     UnlessAll (rows * cols) (CodeOk grid) (λ p. ends (reply 3 (p ∷ [])) grid counts) then
     UnlessAll (rows * cols) (CountOk rows cols grid counts) (λ p. ends (reply 5 (p ∷ [])) grid counts) then
     MendCell rows cols grid counts place code
+
+-- ---- before the changed grid is looked at
+
+-- none of 1, 2, 3, 5, 6 and 7 applies
+pub record Mendable (rows cols : ℕ) (grid counts : List ℕ) (place code : ℕ) : Type 0 where
+  pub right : Right rows cols grid counts
+  pub inside : place < rows * cols
+  pub code-ok : isCode code ≡ true

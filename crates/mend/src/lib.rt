@@ -1,17 +1,15 @@
 // Mending the counts of a sheet after one changed cell: the lent sheet is checked, the water of the changed cell is followed once to see
 // whether it comes back, and then the cell is taken out of the counts with its old code and put in with its new one.
-mod method;
-
 ghost use Prim.Native.Nat.{_*_, _<_};
 ghost use Rattle.sheet.specs.Leaves.{Laid};
 ghost use Rattle.sheet.specs.Sheet.{SheetCounts};
 ghost use Rattle.mend.specs.Mend.{MendPromise, MendCell, MendChange, mendReply, ends};
-use crate::method::Followed;
-use crate::method::look_ahead;
-use crate::method::put_in;
-use crate::method::take_out;
 use checking::CheckReply;
 use checking::check;
+use mend_moves::Followed;
+use mend_moves::look_ahead;
+use mend_moves::put_in;
+use mend_moves::take_out;
 use sheet::compass::is_code;
 
 // The paper's replies to mending.

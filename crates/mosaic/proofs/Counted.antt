@@ -1,10 +1,10 @@
 -- The tiled theorem, of counts: without a loop, the totals of the exits, what comes in at border cells, and the finished tiles are what the whole sheet's counts say.
 -- Assumes nothing.
 use mathlib.Core.Path.{_≡_, sym, ap, _∙_}
-use mathlib.Core.Bool.{Bool, true, false, _&&_, true≢false}
+use mathlib.Core.Bool.{Bool, false, _&&_, true≢false}
 use mathlib.Core.List.{List}
 use mathlib.Core.Logic.{inl, inr}
-use Prim.Native.Nat.{ℕ, zero, suc, _+_, _*_, _≤_, _<_}
+use Prim.Native.Nat.{ℕ, _+_, _*_, _≤_, _<_}
 use native.Mathlib.Omega.{arith}
 use native.Mathlib.Nat.{mul-le-mul, mul-mul-mul-comm}
 use lib.Dec.{eqb}
@@ -14,18 +14,18 @@ use Rattle.flow.proofs.Bound.{on-le, counts-bound}
 use Rattle.flow.proofs.Cut.{incoming}
 use Rattle.flow.proofs.Totals.{counts-weights, incoming-le}
 use Rattle.flow.proofs.Joined as F
-use Rattle.flow.proofs.Mosaic.{total-count, came-count, mosaic}
+use Rattle.flow.proofs.Mosaic.{came-count, mosaic}
 use Rattle.sheet.specs.Sheet.{landAt, destOf, unit, SheetNoLoop}
 use Rattle.sheet.proofs.Dest.{dest-beyond}
 use Rattle.tile.specs.Border.{onBorder}
 use Rattle.mosaic.specs.Layout.{sheetRows, sheetCols, heightOf, widthOf, cellsIn, sheetPlace, allBorders, borderTile, numberInTile, placeIn, borderSheetPlace, Cut, Fits, numberInMosaic}
-use Rattle.mosaic.specs.Join.{exitAt, leadsTo, feeds, own, Totals, comesIn, comesAt, TilesFree, Tells}
+use Rattle.mosaic.specs.Join.{leadsTo, feeds, own, Totals, comesIn, comesAt, TilesFree, Tells}
 use Rattle.mosaic.proofs.Pieces.{sum-most}
 use Rattle.mosaic.proofs.Grid.{tile-below}
 use Rattle.mosaic.proofs.Borders.{at-below, of-below, of-at, border-on}
 use Rattle.mosaic.proofs.Cuts.{cutAt, same-land}
 use Rattle.mosaic.proofs.Totals.{comes-absent}
-use Rattle.mosaic.proofs.Joins.{exit-is, land-is, own-is}
+use Rattle.mosaic.proofs.Joins.{land-is, own-is}
 use Rattle.mosaic.proofs.Feeds.{landsOn, records, comes-is}
 use Rattle.mosaic.proofs.Tiled.{tile-free, whole}
 
@@ -77,13 +77,6 @@ module _ (I J : ℕ) (hs ws : ℕ → ℕ) (fits : Fits I J hs ws) (sheet : List
   joined : Counts M (feeds I J hs ws way code) (λ g. on (C (at g)) (counts (borderTile I J hs ws g) (cell g))) T
   joined = counts-weights M (feeds I J hs ws way code) (own I J hs ws count way) (λ g. on (C (at g)) (counts (borderTile I J hs ws g) (cell g))) T
       (own-is I J hs ws fits sheet tiles cut free counts count way code tells) totals
-
-  -- an exit's total is the sheet's count there
-  pub tiled-total : (g : ℕ) → g < M → exitAt I J hs ws way g ≡ true → T g ≡ c (at g)
-  tiled-total g l e =
-      total-count N to C (I * J) (cellsIn J hs ws) ton (sheetPlace I J hs ws) M (feeds I J hs ws way code) (borderTile I J hs ws) cell
-      (whole I J hs ws fits sheet tiles cut counts count way code free tells) sheet-free (unit sheet) c sheet-counts (λ t. unit (tiles t)) counts same-unit tile-counts T joined g l
-      (sym (exit-is I J hs ws fits sheet tiles cut free counts count way code tells g l) ∙ e)
 
   -- what comes in at border cell h, by the exits whose arrow ends there
   comes-to : (h : ℕ) → h < M → comesIn I J hs ws way code T h ≡ sum M (λ g. on (C (at g) && eqb (to (at g)) (at h)) (T g))

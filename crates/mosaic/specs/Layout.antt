@@ -58,7 +58,8 @@ pub record Fits (I J : ℕ) (hs ws : ℕ → ℕ) : Type 0 where
 
 -- ---- the border cells of all tiles
 
--- of a line in pieces of the lengths f 0, f 1, .., which of the first k pieces x lies in: the last that starts at x or before it
+-- of a line in pieces of the lengths f 0, f 1, .., which of the first k pieces x lies in: the last that starts at x or before it (`piece-is` and `piece-unique`,
+-- proofs/Pieces.antt)
 unfoldable pub piece : (ℕ → ℕ) → ℕ → ℕ → ℕ
 piece f zero x = 0
 piece f (suc k) x = let r = piece f k x in cond (ltb x (sum k f)) r k

@@ -4,17 +4,16 @@ use mathlib.Core.List.{List}
 use mathlib.Core.Logic.{inl, inr}
 use mathlib.Core.Path.{_≡_, sym, ap, ap₂, _∙_}
 use mathlib.Core.Bool.{Bool, true, false}
-use Prim.Native.Nat.{ℕ, _+_, _*_, _<_, _≤_}
+use Prim.Native.Nat.{ℕ, _+_, _<_, _≤_}
 use native.Mathlib.Omega.{arith}
 use lib.Dec.{eqb}
 use borrow.Author.Tests.{eq-eqb, ne-eqb}
-use Rattle.flow.specs.Net.{on}
 use Rattle.flow.proofs.Sum.{test, same, on-true, on-false}
 use Rattle.sheet.specs.Sheet.{countAt}
 use Rattle.mosaic.specs.Join.{isLand, exitAt, onto, leadsTo, own}
 use Rattle.mosaic.specs.Layout.{bordersIn}
 use Rattle.mosaic.proofs.Fed.{exit-at, leads-none, leads-way}
-use Rattle.mosaic_read.specs.Records.{bordersOf, cellCount, cellWay, cellCode, countIn, wayIn, codeIn, heights, widths}
+use Rattle.mosaic_read.specs.Records.{bordersOf, cellCount, cellWay, cellCode, wayIn, heights, widths}
 use Rattle.mosaic_read.specs.Said.{saidCount, saidWay, saidCode}
 use Rattle.mosaic_step.specs.Table.{WellFormed}
 use Rattle.mosaic_step.proofs.Known.{borders-are, said-count, said-way, said-code}

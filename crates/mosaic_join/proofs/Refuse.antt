@@ -1,13 +1,12 @@
 -- The refusals before joining begins, from the mosaic's own numbers and from what reading says.
 -- Assumes nothing.
 use mathlib.Core.List.{List, [], _∷_}
-use mathlib.Core.Path.{_≡_, sym, ap, subst, _∙_}
+use mathlib.Core.Path.{_≡_, sym, ap, subst}
 use Prim.Native.Nat.{ℕ, zero, suc, _+_, _*_, _/_, _%_, _<_, _≤_}
 use native.Mathlib.Omega.{arith}
 use native.Mathlib.Nat.{mul-le-mul, le-refl}
 use lib.ListN.{length}
 use Rattle.flow.specs.Net.{sum}
-use Rattle.promise.specs.Links.{Unless, UnlessAll}
 use Rattle.promise.specs.Links.Unless.{refused, met}
 use Rattle.promise.specs.Links.UnlessAll.{refused-at, met-all}
 use Rattle.promise.specs.Reply.{Reply, numberOf}

@@ -1,10 +1,10 @@
 -- The tile of a border cell, found by the first border numbers of the tiles.
 -- Assumes nothing.
 use mathlib.Core.List.{List}
-use mathlib.Core.Path.{_≡_, sym, ap, _∙_}
+use mathlib.Core.Path.{_≡_, ap, _∙_}
 use Prim.Native.Nat.{ℕ, _+_, _-_, _*_, _<_, _≤_}
 use native.Mathlib.Omega.{arith}
-use Rattle.mosaic.specs.Layout.{bordersIn, borderTile, numberInTile}
+use Rattle.mosaic.specs.Layout.{bordersIn, numberInTile}
 use Rattle.mosaic.proofs.Borders.{tile-in, number-is, number-in}
 use Rattle.mosaic.proofs.Pieces.{piece-unique}
 use Rattle.mosaic_read.specs.Records.{heights, widths}

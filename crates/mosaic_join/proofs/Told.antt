@@ -1,22 +1,19 @@
 -- What well-formed records tell of border cell b of tile t, which is border cell `firstOf t + b` of the mosaic.
 -- Assumes nothing.
 use mathlib.Core.List.{List}
-use mathlib.Core.Path.{_≡_, sym, ap, ap₂, _∙_}
-use Prim.Native.Nat.{ℕ, zero, suc, _+_, _*_, _<_, _≤_}
+use mathlib.Core.Path.{_≡_, sym, ap, _∙_}
+use Prim.Native.Nat.{ℕ, suc, _+_, _*_, _<_, _≤_}
 use native.Mathlib.Omega.{arith}
 use native.Mathlib.Nat.{mul-le-mul}
-use lib.ListN.{length}
-use Rattle.flow.specs.Net.{on, sum}
+use Rattle.flow.specs.Net.{sum}
 use Rattle.flow.proofs.Bound.{on-le}
-use Rattle.flow.proofs.Sum.{sum-ext, sum-suc}
-use Rattle.tile.specs.Border.{borderCells}
-use Rattle.tile.proofs.Cells.{cells-most}
+use Rattle.flow.proofs.Sum.{sum-ext}
 use Rattle.mosaic.specs.Join.{exitAt, own}
-use Rattle.mosaic.specs.Layout.{bordersIn, bordersBefore, borderTile, numberInTile}
-use Rattle.mosaic.proofs.Borders.{border-below, border-tile, border-in, each-border}
-use Rattle.mosaic.proofs.Pieces.{starts-rise, sum-most}
-use Rattle.mosaic_read.specs.Records.{startOf, rowsOf, colsOf, bordersOf, countIn, wayIn, codeIn, heights, widths, endAt, WayOk}
-use Rattle.mosaic_read.specs.Said.{saidCount, saidWay, saidCode}
+use Rattle.mosaic.specs.Layout.{bordersIn}
+use Rattle.mosaic.proofs.Borders.{border-below, each-border}
+use Rattle.mosaic.proofs.Pieces.{sum-most}
+use Rattle.mosaic_read.specs.Records.{rowsOf, colsOf, bordersOf, countIn, wayIn, heights, widths}
+use Rattle.mosaic_read.specs.Said.{saidCount, saidWay}
 use Rattle.mosaic_step.specs.Table.{WellFormed}
 use Rattle.mosaic_step.proofs.Known.{borders-are, before-next, said-count}
 use Rattle.mosaic_step.proofs.Known as K

@@ -1,4 +1,4 @@
--- What the private functions of joining promise each other. Nothing here is cited by the public promise.
+-- What the functions of joining promise each other. Nothing here is cited by a public promise.
 -- Assumes nothing.
 use mathlib.Core.Bool.{cond, _&&_}
 use mathlib.Core.List.{List}

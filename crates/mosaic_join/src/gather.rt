@@ -2,7 +2,6 @@
 ghost use mathlib.Core.Path.{_≡_};
 ghost use Prim.Native.Nat.{_+_, _<_};
 ghost use lib.ListN.{length, replicate};
-ghost use Rattle.listed_net.specs.Net.{toAt};
 ghost use Rattle.mosaic_join.specs.Method.{GatherLent, Gathered};
 use listed_net::method::arrow;
 

@@ -1,16 +1,16 @@
 // Joining the border records of a mosaic: what comes in at each border cell, from the totals of the exits that step onto it. The exits are
 // a net, each fed by the exits that step onto border cells with that way, and its counts are their totals.
-pub mod gather;
-pub mod leads;
-pub mod pours;
-pub mod tiles;
+mod gather;
+mod leads;
+mod pours;
+mod tiles;
 
 ghost use mathlib.Core.Path.{_≡_};
 ghost use lib.ListN.{length, replicate};
 ghost use Rattle.promise.specs.Links.{Unless};
 ghost use Rattle.promise.specs.Reply.Reply.{reply};
 ghost use mathlib.Core.List.{[]};
-ghost use Rattle.mosaic_step.specs.Table.{WellFormed, Table};
+ghost use Rattle.mosaic_step.specs.Table.{WellFormed};
 ghost use Rattle.mosaic_join.specs.Joining.{borders, cleared, works, ends, joinReply, JoinPromise, JoinLengths, JoinExits};
 ghost use Rattle.mosaic_join.specs.Method.{NetWritten};
 use crate::gather::gather;

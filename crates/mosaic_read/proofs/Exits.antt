@@ -1,23 +1,21 @@
 -- What well-formed records say, in the words of crate mosaic (specs/Join): which border cells are land, that each way leads to an exit of the same tile,
 -- and that an exit's arrow steps outside its tile.
 -- Assumes nothing.
-use mathlib.Core.Bool.{true, false}
+use mathlib.Core.Bool.{true}
 use mathlib.Core.List.{List}
-use mathlib.Core.Path.{_≡_, sym, ap, ap₂, _∙_}
+use mathlib.Core.Path.{_≡_, ap, ap₂, _∙_}
 use Prim.Native.Nat.{ℕ, _+_, _*_, _≤_, _<_}
 use native.Mathlib.Omega.{arith}
-use lib.Dec.{eqb}
-use borrow.Author.Tests.{eqb-true, eq-eqb, ne-eqb, not-false}
+use borrow.Author.Tests.{eqb-true, ne-eqb}
 use Rattle.sheet.specs.Compass.{isArrow, stepOf}
 use Rattle.sheet.specs.Sheet.{stepFrom}
 use Rattle.tile.proofs.Cells.{cells-most}
 use Rattle.mosaic.specs.Layout.{heightOf, widthOf, cellsIn, bordersIn, bordersBefore, allBorders, borderTile, numberInTile, placeIn}
-use Rattle.mosaic.specs.Join.{isLand, exitAt, leadsTo}
+use Rattle.mosaic.specs.Join.{exitAt, leadsTo}
 use Rattle.mosaic.proofs.Borders.{border-below, border-tile, border-in, tile-in, number-in}
-use Rattle.mosaic_read.specs.Records.{startOf, rowsOf, colsOf, bordersOf, wayIn, codeIn, heights, widths, Leads}
-use Rattle.mosaic_read.specs.Said.{saidCount, saidWay, saidCode}
+use Rattle.mosaic_read.specs.Records.{startOf, rowsOf, colsOf, bordersOf, wayIn, heights, widths, Leads}
+use Rattle.mosaic_read.specs.Said.{saidWay, saidCode}
 use Rattle.mosaic_read.proofs.AllRecords.{AllOk}
-use Rattle.mosaic_read.proofs.Tests.{both}
 use Rattle.mosaic_read.proofs.Said as S
 use Rattle.mosaic_read.proofs.Shapes.{rows-height, cols-width, borders-in}
 
@@ -38,21 +36,6 @@ module _ (bytes : List ℕ) (I J : ℕ) (ok : AllOk bytes J (I * J)) (g : ℕ) (
   few : bordersOf bytes t ≤ 1020
   unfolding bordersOf
   few = cells-most (rowsOf bytes t) (colsOf bytes t) (ok t lt .sides .shape)
-
-  -- its count
-  pub said-most : saidCount bytes I J g ≤ cellsIn J (heights bytes J) (widths bytes) t
-  unfolding saidCount
-  said-most = rw (← (rows-height (ok t lt)), ← (cols-width (ok t lt))) (S.count-most (ok t lt) b lb)
-
-  pub zero-not-land : saidCount bytes I J g ≡ 0 → isLand (saidWay bytes I J) (saidCode bytes I J) g ≡ false
-  unfolding isLand saidCount saidWay saidCode
-  zero-not-land e = let m = S.zero-absent (ok t lt) b lb e in rw (m .0, m .1)
-
-  pub not-land-zero : isLand (saidWay bytes I J) (saidCode bytes I J) g ≡ false → saidCount bytes I J g ≡ 0
-  unfolding isLand saidCount saidWay saidCode
-  not-land-zero e =
-      let m = both (eqb (wayIn bytes t b) 65535) (eqb (codeIn bytes t b) 255) (not-false _ e) in
-      S.absent-zero (ok t lt) b lb (eqb-true (wayIn bytes t b) 65535 (m .0)) (eqb-true (codeIn bytes t b) 255 (m .1))
 
   -- its way, where it has one
   module _ (n : saidWay bytes I J g ≡ 65535 → ⊥) where
@@ -84,15 +67,6 @@ module _ (bytes : List ℕ) (I J : ℕ) (ok : AllOk bytes J (I * J)) (g : ℕ) (
     unfolding saidWay
     leads-way = ap₂ (λ (u a : ℕ). wayIn bytes u a) leads-tile leads-number ∙ leads .same-way
 
-    pub leads-code : saidCode bytes I J e ≡ saidCode bytes I J g
-    unfolding saidCode
-    leads-code = ap₂ (λ (u a : ℕ). codeIn bytes u a) leads-tile leads-number ∙ leads .same-code
-
-    -- it is an exit
-    pub leads-exit : exitAt I J (heights bytes J) (widths bytes) (saidWay bytes I J) e ≡ true
-    unfolding exitAt saidWay
-    leads-exit = eq-eqb _ _ (leads-way ∙ sym leads-number)
-
   -- an exit: it has a way, and so it is land
   module _ (x : exitAt I J (heights bytes J) (widths bytes) (saidWay bytes I J) g ≡ true) where
     exit-itself : saidWay bytes I J g ≡ b
@@ -101,10 +75,6 @@ module _ (bytes : List ℕ) (I J : ℕ) (ok : AllOk bytes J (I * J)) (g : ℕ) (
 
     pub exit-no-mark : saidWay bytes I J g ≡ 65535 → ⊥
     exit-no-mark m = omega (arith, exit-itself, lb, few)
-
-    pub exit-counted : saidCount bytes I J g ≡ 0 → ⊥
-    unfolding saidCount saidWay
-    exit-counted z = exit-no-mark (S.zero-absent (ok t lt) b lb z .0)
 
     pub exit-arrow : isArrow (saidCode bytes I J g) ≡ true
     unfolding saidCode

@@ -7,7 +7,6 @@ pub mod Turns
 pub mod AllRecords
 pub mod One
 pub mod Shapes
-pub mod Answers
 pub mod Said
 pub mod Exits
 pub mod CaseO

@@ -1,11 +1,8 @@
 -- What well-formed records say of the border cells: of border cell b of record t, and of border cell g of the mosaic.
 -- Assumes nothing.
 use mathlib.Core.List.{List}
-use mathlib.Core.Logic.{_⊎_, inl, inr}
 use mathlib.Core.Path.{_≡_, ap₂}
 use Prim.Native.Nat.{ℕ, _+_, _*_, _≤_, _<_}
-use native.Mathlib.Omega.{arith}
-use Rattle.flow.proofs.Sum.{same}
 use Rattle.mosaic.specs.Layout.{bordersIn, bordersBefore, borderTile, numberInTile}
 use Rattle.mosaic.proofs.Borders.{border-tile, border-in}
 use Rattle.mosaic_read.specs.Records.{startOf, rowsOf, colsOf, bordersOf, countIn, wayIn, codeIn, heights, widths, Leads, RecordOk}
@@ -27,14 +24,6 @@ module _ {bytes : List ℕ} {J t : ℕ} (r : RecordOk bytes J t) (b : ℕ) (l : 
   -- a way that is no mark leads to a border cell that is its own way, with the same code, which steps outside from there
   pub leads-out : (wayIn bytes t b ≡ 65535 → ⊥) → Leads bytes (startOf bytes t) (rowsOf bytes t) (colsOf bytes t) (bordersOf bytes t) b
   leads-out n = r .ways .ways b l .leads (λ m. n (m .0)) (λ m. n (m .0))
-
-  -- of which there are these two
-  pub mark-code : wayIn bytes t b ≡ 65535 → bordersOf bytes t ≤ 65535 → (codeIn bytes t b ≡ 255) ⊎ (codeIn bytes t b ≡ 0)
-  mark-code e few =
-      elim (same (codeIn bytes t b) 255) [
-        | inl k ↦ inl k
-        | inr k ↦ elim (same (codeIn bytes t b) 0) [ inl z ↦ inr z | inr z ↦ absurd (omega (arith, e, r .ways .ways b l .leads (λ m. k (m .1)) (λ m. z (m .1)) .border)) ]
-      ]
 
 -- ---- border cell g of the mosaic
 

@@ -5,10 +5,9 @@ use mathlib.Core.Path.{_≡_, ap₂}
 use Prim.Native.Nat.{ℕ, suc, _+_, _-_, _*_, _≤_, _<_}
 use native.Mathlib.Omega.{arith}
 use Rattle.flow.specs.Net.{sum}
-use Rattle.flow.proofs.Sum.{sum-ext}
 use Rattle.sheet.proofs.Places.{row-of, col-of, place-lt}
 use Rattle.tile.specs.Border.{borderCells}
-use Rattle.mosaic.specs.Layout.{heightOf, widthOf, bordersIn, bordersBefore, allBorders, Fits}
+use Rattle.mosaic.specs.Layout.{heightOf, widthOf, bordersIn, Fits}
 use Rattle.mosaic_read.specs.Records.{rowsOf, colsOf, bordersOf, heights, widths, RecordOk}
 use Rattle.mosaic_read.specs.Read.{MosaicShape}
 use Rattle.mosaic_read.proofs.AllRecords.{AllOk}
@@ -23,10 +22,6 @@ module _ {bytes : List ℕ} {J t : ℕ} (r : RecordOk bytes J t) where
   pub borders-in : bordersOf bytes t ≡ bordersIn J (heights bytes J) (widths bytes) t
   unfolding bordersOf bordersIn
   borders-in = ap₂ borderCells (r .placed .height) (r .placed .width)
-
--- the border cells of the records before record t, and of all
-pub borders-before : (bytes : List ℕ) (J t : ℕ) → AllOk bytes J t → sum t (bordersOf bytes) ≡ bordersBefore J (heights bytes J) (widths bytes) t
-borders-before bytes J t ok = sum-ext (λ q l. borders-in (ok q l))
 
 module _ (bytes : List ℕ) (I J : ℕ) (shape : MosaicShape I J) (ok : AllOk bytes J (I * J)) where
   -- the first record of tile row i, and that of tile column j
@@ -64,6 +59,3 @@ module _ (bytes : List ℕ) (I J : ℕ) (shape : MosaicShape I J) (ok : AllOk by
         rows-most = rw last-row at (rows-sum (I - 1) (omega arith));
         cols-most = rw last-col at (cols-sum (J - 1) (omega arith));
       }
-
-  pub borders-all : sum (I * J) (bordersOf bytes) ≡ allBorders I J (heights bytes J) (widths bytes)
-  borders-all = borders-before bytes J (I * J) ok

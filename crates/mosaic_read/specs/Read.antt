@@ -19,7 +19,7 @@ pub record MosaicShape (I J : ℕ) : Type 0 where
   pub some-col : 1 ≤ J
   pub tiles-most : I * J ≤ 64
 
--- the paper's number and values for each answer: done with the number of border cells
+-- the paper's number and values for each refusal; done, which is not one of the paper's, has the number of border cells
 abbrev pub readReply : ReadReply → Reply
 readReply (Good borders) = reply 0 (borders ∷ [])
 readReply (Record byte) = reply 8 (byte ∷ [])

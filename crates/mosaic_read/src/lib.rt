@@ -1,6 +1,6 @@
 // Reading the border records of a mosaic: whether they are well formed, or the first fault.
 pub mod bytes;
-pub mod parts;
+mod parts;
 
 ghost use Prim.Native.Nat.{_*_, _<_};
 ghost use Rattle.mosaic_read.specs.Method.{Reached, ReadOnePromise};

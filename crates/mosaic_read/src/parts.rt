@@ -9,13 +9,11 @@ use crate::bytes::cell_way;
 use crate::bytes::start_of;
 use crate::bytes::two_at;
 use sheet::compass::is_arrow;
+use sheet::shape::Sheet;
 use sheet::shape::Tile;
 use sheet::shape::TileMade;
 use sheet::step::beside;
 use tile::border::border_spot;
-
-// The most summed rows, and the most summed columns.
-const MOST: usize = 4096;
 
 // Whether field 1 is well formed in the record that begins at byte o.
 pub fn sides_ok(records: &[u8], o: usize) -> bool
@@ -70,10 +68,10 @@ pub fn placed_ok(
     if cols != two_at(records, top + 5) {
         return false;
     }
-    if MOST < above + rows {
+    if Sheet::MOST_ROWS < above + rows {
         return false;
     }
-    if MOST < left + cols {
+    if Sheet::MOST_COLS < left + cols {
         return false;
     }
     true

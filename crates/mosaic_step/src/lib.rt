@@ -1,5 +1,5 @@
 // The border cell of a mosaic that an exit steps onto.
-pub mod line;
+mod line;
 pub mod table;
 
 ghost use mathlib.Core.Bool.{true};

@@ -1,11 +1,10 @@
 -- A promise taken apart, for a caller: an outcome that is not a link's refusal has passed that link; and one that is told which link it is at.
 -- Assumes nothing.
 use Prim.Native.Nat.{ℕ, _<_}
-use mathlib.Core.Path.{_≡_, refl}
+use mathlib.Core.Path.{_≡_}
 use mathlib.Core.List.{List}
-use Rattle.promise.specs.First.{Finds}
-use Rattle.promise.specs.Reply.{Reply, reply}
-use Rattle.promise.specs.Links.{Unless, UnlessAll, UnlessSome, FirstNot}
+use Rattle.promise.specs.Reply.{reply}
+use Rattle.promise.specs.Links.{Unless, UnlessAll, UnlessSome}
 use Rattle.promise.specs.Links.Unless.{refused, met}
 use Rattle.promise.specs.Links.UnlessAll.{refused-at, met-all}
 use Rattle.promise.specs.Links.UnlessSome.{refused-with, met-none}

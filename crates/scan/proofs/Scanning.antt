@@ -1,17 +1,17 @@
 -- The scan over a sheet: how it starts, what each place does to what is known, and what is known when it is over.
 -- Assumes nothing.
-use mathlib.Core.Bool.{true, false, not, _&&_, true≢false}
+use mathlib.Core.Bool.{true, false, not, _&&_}
 use mathlib.Core.List.{List, []}
-use mathlib.Core.Logic.{_⊎_, inl, inr, _↔_}
-use mathlib.Core.Path.{_≡_, refl, sym, ap, _∙_}
+use mathlib.Core.Logic.{inl, inr, _↔_}
+use mathlib.Core.Path.{_≡_, sym, ap, _∙_}
 use Prim.Native.Nat.{ℕ, _+_, _*_, _<_, _≤_}
 use native.Mathlib.Omega.{arith}
 use lib.Dec.{eqb}
-use lib.ListN.{length, getD, replicate, length-replicate, getD-replicate}
+use lib.ListN.{length, replicate, length-replicate, getD-replicate}
 use borrow.Author.Tests.{eqb-true, eq-eqb, ne-eqb}
-use Rattle.flow.specs.Net.{on, sum, given, loopLength, OnLoop, NoLoop, FirstLoop, Counts}
+use Rattle.flow.specs.Net.{on, given, loopLength, Counts}
 use Rattle.flow.proofs.Count.{gives}
-use Rattle.flow.proofs.Scan.{Ahead, looked-start, scan-start, scan-take, scan-next, scan-end, scanned, scanned-counts, scanned-free, scanned-first}
+use Rattle.flow.proofs.Scan.{looked-start, scan-start, scan-take, scan-next, scan-end, scanned, scanned-counts, scanned-free, scanned-first}
 use Rattle.flow.proofs.Sum.{test, on-true, on-false, on-ne, sum-none, sum-ext, sum-some}
 use Rattle.flow.proofs.Wait.{Waits, waits-past}
 use Rattle.sheet.specs.Leaves.{Laid}

@@ -1,31 +1,31 @@
 -- One step of the look-around method on a sheet: what writing a cell's count, or leaving it to wait, does to what is known half-way.
 -- Assumes nothing.
-use mathlib.Core.Bool.{Bool, true, false, not, _&&_, true≢false}
+use mathlib.Core.Bool.{Bool, true, false, not, _&&_}
 use mathlib.Core.List.{List}
-use mathlib.Core.Logic.{_⊎_, inl, inr}
+use mathlib.Core.Logic.{inl, inr}
 use mathlib.Core.Path.{_≡_, refl, sym, ap, _∙_}
-use Prim.Native.Nat.{ℕ, suc, _+_, _*_, _<_, _≤_}
+use Prim.Native.Nat.{ℕ, _+_, _*_, _<_, _≤_}
 use native.Mathlib.Nat.{mul-le-mul-right, suc-mul}
 use native.Mathlib.Numerals.{add-one}
 use native.Mathlib.Omega.{arith}
 use lib.Dec.{eqb, ltb}
-use lib.ListN.{length, getD, set, length-set}
+use lib.ListN.{length, set, length-set}
 use lib.Seq.{getD-set-same, getD-set-other}
 use borrow.Author.Tests.{lt-ltb, le-ltb, eq-eqb, ne-eqb}
-use Rattle.flow.specs.Net.{on, sum, number, given}
+use Rattle.flow.specs.Net.{on}
 use Rattle.flow.proofs.LookBound.{looked-bound}
-use Rattle.flow.proofs.LookStep.{Looked, zeros, look-step, zeros-fall}
-use Rattle.flow.proofs.Scan.{Ahead, EndsWeigh}
+use Rattle.flow.proofs.LookStep.{look-step, zeros-fall}
+use Rattle.flow.proofs.Scan.{EndsWeigh}
 use Rattle.flow.proofs.Sum.{same, on-true, on-false, on-eq, on-ne, sum-change}
 use Rattle.flow.proofs.Bound.{on-le}
-use Rattle.flow.proofs.Wait.{Waits, waits-on, waits-stop, waits-less}
+use Rattle.flow.proofs.Wait.{waits-on, waits-stop, waits-less}
 use Rattle.sheet.specs.Leaves.{Laid, Cell, SpotOf}
 use Rattle.around.specs.Around.{LooksAround}
 use Rattle.sheet.specs.Sheet.{landAt, destOf, outletAt, countAt}
 use Rattle.sheet.specs.declared.step.Spot.{Spot}
 use Rattle.around.specs.declared.Around.the-variants.{Waiting, Ready}
 use Rattle.sheet.proofs.Dest.{from-land, to-land, dest-le, dest-beyond}
-use Rattle.scan.specs.Scan.{weight, RightSoFar, ScannedBut, ToCount, Moved, Ends, found, left}
+use Rattle.scan.specs.Scan.{weight, RightSoFar, ToCount, Moved, Ends, found, left}
 
 -- ---- outlets that have their count
 

@@ -2,10 +2,10 @@
 // counts; one loop a function. `more` tells what comes to each cell from elsewhere; beyond its end nothing does.
 ghost use mathlib.Core.Path.{_≡_};
 ghost use Prim.Native.Nat.{_+_, _*_, _<_, _≤_};
-ghost use lib.ListN.{length, replicate};
+ghost use lib.ListN.{replicate};
 ghost use Rattle.sheet.specs.Leaves.{Laid, Cell};
 ghost use Rattle.around.specs.Around.{LooksAround};
-ghost use Rattle.sheet.specs.Sheet.{countAt, destOf};
+ghost use Rattle.sheet.specs.Sheet.{countAt};
 ghost use Rattle.scan.specs.Scan.{RightSoFar, WeightsFit, Counting, Moved, Walked, Ends, ToCount, found, left};
 use around::Around;
 use around::giver_number;

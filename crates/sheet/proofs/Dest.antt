@@ -1,20 +1,18 @@
 -- Laws of `destOf`, by which the layers above go: water goes from land to land, to a place of the sheet or to none.
 -- Assumes nothing.
 use mathlib.Core.Path.{_≡_, refl, sym, ap, _∙_}
-use mathlib.Core.Bool.{Bool, true, false, cond, not, _&&_, true≢false}
+use mathlib.Core.Bool.{Bool, true, false, cond, true≢false}
 use mathlib.Core.List.{List, [], _∷_}
-use mathlib.Core.Logic.{_⊎_, inl, inr, _↔_}
-use Prim.Native.Nat.{ℕ, zero, suc, _+_, _*_, _<_, _≤_}
+use mathlib.Core.Logic.{inl, inr, _↔_}
+use Prim.Native.Nat.{ℕ, zero, suc, _*_, _<_, _≤_}
 use native.Mathlib.Omega.{arith}
 use native.Mathlib.Nat.{le-of-suc-le-suc}
-use lib.Dec.{eqb, ltb}
 use lib.ListN.{length, getD, List·getD-eq-default}
 use borrow.Author.Tests.{le-ltb, ltb-false, not-true}
-use Rattle.flow.specs.Net.{on, sum, Down}
-use Rattle.flow.proofs.Sum.{test, on-true, on-false}
+use Rattle.flow.proofs.Sum.{test, on-true}
 use Rattle.flow.proofs.Walk.{below}
 use Rattle.sheet.specs.Compass.{isArrow, stepOf}
-use Rattle.sheet.specs.Sheet.{codeAt, landAt, stepFrom, ifLand, destOf, outletAt, unit}
+use Rattle.sheet.specs.Sheet.{codeAt, landAt, stepFrom, destOf, outletAt, unit}
 use Rattle.sheet.proofs.Table.{absent-no-arrow}
 
 -- ---- codes and land

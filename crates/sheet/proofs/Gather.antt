@@ -1,19 +1,17 @@
 -- What a loop over the places gathers: one place more.
 -- Assumes nothing.
-use mathlib.Core.Path.{_≡_, refl, sym, ap, _∙_}
-use mathlib.Core.Bool.{Bool, true, false, not, _&&_}
+use mathlib.Core.Path.{_≡_, sym, ap, _∙_}
+use mathlib.Core.Bool.{Bool, true, false, not}
 use mathlib.Core.List.{List}
 use mathlib.Core.Logic.{inl, inr}
 use lib.ListN.{length, getD}
-use Prim.Native.Nat.{ℕ, zero, suc, _+_, _*_, _<_, _≤_, max}
+use Prim.Native.Nat.{ℕ, _+_, _<_, _≤_, max}
 use native.Mathlib.Omega.{arith}
 use native.Mathlib.Numerals.{add-one}
-use lib.Dec.{leb, ltb}
-use borrow.Author.Tests.{lt-ltb, le-ltb, lt-leb, le-leb, not-false}
+use borrow.Author.Tests.{not-false}
 use Rattle.flow.specs.Net.{on, sum, number}
 use Rattle.flow.proofs.Sum.{test, sum-next, on-true, on-false, sum-ones, sum-mono, sum-at-least}
 use Rattle.flow.proofs.Bound.{on-le}
-use Rattle.flow.proofs.Walk.{below}
 use Rattle.sheet.specs.Sheet.{codeAt, CodeOk}
 use Rattle.sheet.specs.Compass.{isCode}
 use Rattle.sheet.specs.Leaves.{badAt}

@@ -1,13 +1,12 @@
 -- What the meaning of a code tells of it: laws of `meaningOf`.
 -- Assumes nothing.
-use mathlib.Core.Path.{_≡_, refl, sym, ap, _∙_}
-use mathlib.Core.Bool.{Bool, true, false, cond, _||_}
+use mathlib.Core.Path.{_≡_, refl}
+use mathlib.Core.Bool.{Bool, true, false, cond}
 use Prim.Native.Nat.{ℕ, _<_}
 use native.Mathlib.Omega.{arith}
 use borrow.Author.Tests.{ne-eqb}
 use Rattle.sheet.specs.Compass.{stepAt, stepOf, isArrow, isAbsent, meaningOf}
 use Rattle.sheet.specs.declared.compass.Step.{Step}
-use Rattle.sheet.specs.declared.compass.Meaning.{Meaning}
 use Rattle.sheet.specs.declared.compass.Meaning.the-variants.{Arrow, Absent, Bad}
 use Rattle.sheet.proofs.Table.{no-arrow}
 

@@ -3,8 +3,8 @@
 use mathlib.Core.Bool.{Bool, true, false, not, _&&_, _||_, true≢false}
 use mathlib.Core.List.{List}
 use mathlib.Core.Logic.{_⊎_, inl, inr, _↔_}
-use mathlib.Core.Path.{_≡_, refl, sym, ap, _∙_}
-use Prim.Native.Nat.{ℕ, _+_, _*_, _<_, _≤_}
+use mathlib.Core.Path.{_≡_, refl, sym, _∙_}
+use Prim.Native.Nat.{ℕ, _*_, _<_}
 use native.Mathlib.Omega.{arith}
 use lib.Dec.{eqb, ltb}
 use lib.ListN.{length}
@@ -13,7 +13,7 @@ use Rattle.flow.specs.Net.{on, sum, number, given, downb}
 use Rattle.flow.proofs.Bound.{balance}
 use Rattle.flow.proofs.Count.{weighted-no-loop, counts-unique}
 use Rattle.flow.proofs.Passes.{counts-passes}
-use Rattle.flow.proofs.Sum.{test, on-true, on-false, sum-ext, sum-none, on-ne}
+use Rattle.flow.proofs.Sum.{test, on-false, sum-ext, sum-none, on-ne}
 use Rattle.flow.proofs.Walk.{downb-iff}
 use Rattle.sheet.specs.Sheet.{landAt, destOf, outletAt, unit, countAt, passes, Downstream, SheetCounts, SheetNoLoop}
 use Rattle.sheet.specs.Totals.{landCells}

@@ -1,15 +1,15 @@
 -- Rows, columns and places: what is not linear.
 -- Assumes nothing.
 use mathlib.Core.List.{List}
-use mathlib.Core.Path.{_≡_, refl, sym, ap, _∙_}
+use mathlib.Core.Path.{_≡_, sym, _∙_}
 use lib.ListN.{length}
 use Prim.Native.Nat.{ℕ, zero, suc, _+_, _-_, _*_, _/_, _%_, _<_, _≤_}
 use native.Mathlib.Omega.{arith}
-use native.Mathlib.Nat.{mul-zero, mod-lt, div-lt-iff-lt-mul, mul-le-mul, mul-le-mul-right, suc-mul, div-add-mod', mul-add-div-right, mul-add-mod-self-right, div-eq-of-lt, mod-eq-of-lt}
+use native.Mathlib.Nat.{mul-zero, mod-lt, div-lt-iff-lt-mul, mul-le-mul, mul-le-mul-right, suc-mul, mul-add-div-right, mul-add-mod-self-right, div-eq-of-lt, mod-eq-of-lt}
 use mathlib.Core.Bool.{Bool, true, false, false≢true}
 use borrow.Author.Tests.{leb-true, le-leb}
 use Rattle.sheet.specs.Shape.{Within}
-use Rattle.sheet.specs.Leaves.{Place, Laid, Cell, within}
+use Rattle.sheet.specs.Leaves.{Place, Laid, within}
 
 pub cols-pos : (rows cols p : ℕ) → p < rows * cols → 0 < cols
 cols-pos rows zero p h = let h′ = rw (mul-zero rows) at h in absurd (omega arith)

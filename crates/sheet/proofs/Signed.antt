@@ -1,7 +1,7 @@
 -- A coordinate moved by -1, 0 or 1, as natural numbers: with `lift d`, which is one more than d, no sum falls below zero.
 -- Assumes nothing.
 use mathlib.Core.Path.{_≡_, refl, ap, _∙_}
-use mathlib.Core.Bool.{Bool, true, false, cond}
+use mathlib.Core.Bool.{true, false, cond}
 use Prim.Native.Nat.{ℕ, zero, suc, _+_, _-_, _*_, _/_, _%_, _<_, _≤_}
 use native.Mathlib.Omega.{arith}
 use lib.Dec.{T, leb, ltb, leb→le}
@@ -13,7 +13,6 @@ use borrow.Author.Tests.{le-ltb, le-leb}
 use Rattle.sheet.specs.Leaves.{within, small, lift}
 use Rattle.sheet.specs.Sheet.{inside, coordinate, stepFrom}
 use Rattle.sheet.specs.Compass.{stepAt, stepOf, lineOf, isArrow}
-use Rattle.sheet.specs.declared.compass.Step.{Step}
 use Rattle.sheet.proofs.Table.{below8, arrow-line}
 use Rattle.sheet.proofs.Places.{row-of, col-of}
 
@@ -33,7 +32,7 @@ small-cases P a b c (negsuc (suc n)) t = let h = leb→le (suc n) 0 t in absurd 
 pub less-one : (x : ℕ) → pos (x + 1) +ℤ negsuc 0 ≡ pos x
 less-one x = simp (le-ltb (x + 1) 1 (omega arith)) (ap pos (omega arith))
 
--- the machine's sum of x, 1 and d
+-- the 32-bit sum of x, 1 and d
 pub sum-is : (x : ℕ) (d : ℤ) → x < 4096 → T (small d) → toZ w32 (ofZ w32 (toZ w32 x +ℤ pos 1)) +ℤ toZ w32 (ofZ w32 d) ≡ pos (x + lift d)
 sum-is x d h t =
     rw (toZ-pos w32 {n = x} (omega arith), toZ-pos w32 {n = x + 1} (omega arith))

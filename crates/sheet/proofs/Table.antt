@@ -1,7 +1,7 @@
 -- The compass table's laws: what holds at each of its eight lines, found by computing there.
 -- Assumes nothing.
-use mathlib.Core.Path.{_≡_, refl, sym, ap, _∙_}
-use Prim.Native.Nat.{ℕ, zero, suc, _+_, _<_, _≤_}
+use mathlib.Core.Path.{_≡_, refl}
+use Prim.Native.Nat.{ℕ, zero, suc, _<_}
 use native.Mathlib.Omega.{arith}
 use borrow.Author.Tests.{ne-eqb, eqb-true, lt-ltb, ltb-true}
 use mathlib.Core.Bool.{Bool, true, false, cond}
@@ -9,7 +9,7 @@ use mathlib.Core.List.{List, [], _∷_}
 use lib.Dec.{eqb}
 use lib.IntN.{pos}
 use lib.ListN.{length, getD}
-use Rattle.sheet.specs.Compass.{stepAt, stepOf, lineOf, isArrow, findCode, compass, go}
+use Rattle.sheet.specs.Compass.{stepAt, lineOf, isArrow, findCode, compass, go}
 use Rattle.sheet.specs.declared.compass.Step.{Step}
 
 -- a statement that holds at 0 to 7 holds at each number below 8
@@ -73,10 +73,6 @@ arrow-line x e = ltb-true (lineOf x) 8 e
 pub line-arrow : (k : ℕ) → k < 8 → isArrow (stepAt k .0) ≡ true
 unfolding isArrow
 line-arrow k l = lt-ltb (lineOf (stepAt k .0)) 8 (omega (arith, line-code k l))
-
-pub line-step : (k : ℕ) → k < 8 → stepOf (stepAt k .0) ≡ stepAt k
-unfolding stepOf
-line-step k l = ap stepAt (line-code k l)
 
 -- a number that stands in no line is no arrow
 pub no-arrow : (x : ℕ) → ((k : ℕ) → k < 8 → stepAt k .0 ≡ x → ⊥) → isArrow x ≡ false

@@ -2,8 +2,6 @@
 -- Assumes nothing.
 use mathlib.Core.Path.{_≡_}
 use Prim.Native.Nat.{ℕ, _*_, _≤_}
-use Rattle.sheet.specs.declared.shape.Sheet.{Sheet}
-use Rattle.sheet.specs.declared.shape.Tile.{Tile}
 use Rattle.sheet.specs.declared.shape.SheetMade as S
 use Rattle.sheet.specs.declared.shape.TileMade as T
 

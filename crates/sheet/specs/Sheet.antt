@@ -72,6 +72,11 @@ countAt counts p = getD counts p 0
 abbrev pub SheetCounts : ℕ → ℕ → List ℕ → List ℕ → Type 0
 SheetCounts rows cols g counts = Counts (rows * cols) (destOf rows cols g) (unit g) (countAt counts)
 
+-- the counts of a sheet: one for each place, and the equation at every place
+pub record CountsOf (rows cols : ℕ) (g counts : List ℕ) : Type 0 where
+  pub long : length counts ≡ rows * cols
+  pub equation : SheetCounts rows cols g counts
+
 -- ---- downstream, and loops
 
 -- q is downstream of p: a land cell reached by following arrows from p, one step or more

@@ -1,6 +1,6 @@
 -- The paper's own lines, as the definitions compute them.
 -- Assumes nothing.
-use mathlib.Core.List.{List, [], _∷_}
+use mathlib.Core.List.{[], _∷_}
 use mathlib.Core.Path.{_≡_, refl}
 use Rattle.text.specs.Text.{digits, decimal, line, lines}
 use Rattle.show.specs.Show.{word, refusal, places, done}

@@ -1,9 +1,8 @@
 -- Laws of what has been written.
 -- Assumes nothing.
-use Prim.Native.Nat.{ℕ, zero, suc, _+_, _*_, _-_, _/_, _%_, _^_, _<_, _≤_}
+use Prim.Native.Nat.{ℕ, suc, _+_, _*_, _-_, _/_, _%_, _^_, _<_, _≤_}
 use mathlib.Core.Path.{_≡_, refl, sym, ap, _∙_}
 use mathlib.Core.List.{List, [], _∷_, _++_, append-assoc, append-nil}
-use mathlib.Core.Logic.{inl, inr}
 use native.Mathlib.Nat.{mul-suc}
 use native.Mathlib.Omega.{arith}
 use native.Mathlib.Numerals.{add-one}
@@ -11,7 +10,7 @@ use lib.ListN.{length, getD, take, drop, set, length-append, length-drop, take-a
 use lib.Seq.{take-suc, take-length, length-take-le, take-at, drop-append-add, drop-drop, drop-cons, set-split}
 use Rattle.text.specs.Text.{decimal, lines}
 use Rattle.text.specs.Read.{endOf, turn}
-use Rattle.text.proofs.Decimal.{decimal-one, decimal-step, decimal-some, step-long, decimal-most}
+use Rattle.text.proofs.Decimal.{decimal-one, decimal-step, decimal-most}
 use Rattle.text.proofs.Flat.{flat, flat-cons, flat-nil, flat-rows}
 use Rattle.show.specs.Show.{Wrote}
 

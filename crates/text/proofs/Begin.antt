@@ -1,6 +1,6 @@
 -- Laws of the first line, and of a body after it.
 -- Assumes nothing.
-use Prim.Native.Nat.{ℕ, _+_, _*_, _-_, _<_, _≤_}
+use Prim.Native.Nat.{ℕ, _+_, _*_, _-_, _≤_}
 use mathlib.Core.Path.{_≡_, refl, sym, ap, _∙_}
 use mathlib.Core.List.{List, [], _∷_, _++_, append-assoc, append-cancel-left}
 use native.Mathlib.Nat.{mul-le-mul}
@@ -9,7 +9,7 @@ use mathlib.Core.Bool.{true, false, false≢true}
 use mathlib.Core.Logic.{inl, inr}
 use lib.Seq.{take-all}
 use lib.ListN.{length, take, drop, length-append, length-drop}
-use Rattle.text.specs.Text.{decimal, line, lines, Short, Opens, Holds, StopsAt, Digit}
+use Rattle.text.specs.Text.{decimal, line, lines, Short, Opens, StopsAt, Digit}
 use Rattle.text.specs.Read.{Stuck, fits, Opening, ProperOf, Rows}
 use Rattle.flow.proofs.Sum.{test}
 use Rattle.sheet.specs.Leaves.{within}

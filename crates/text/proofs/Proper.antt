@@ -1,15 +1,15 @@
 -- The paper's sentence on 11: no proper text at all, of any sides, goes on at the byte where the first line stops, or what follows it.
 -- Last, from what reading the parts of a text answers to what reading a whole text does.
 -- Assumes nothing.
-use Prim.Native.Nat.{ℕ, _+_, _*_, _<_, _≤_}
-use mathlib.Core.Path.{_≡_, refl, sym, ap, _∙_, subst₂}
+use Prim.Native.Nat.{ℕ, _+_, _*_, _≤_}
+use mathlib.Core.Path.{_≡_, sym, ap, _∙_, subst₂}
 use mathlib.Core.List.{List, [], _∷_, _++_, map, append-assoc}
 use mathlib.Core.Logic.{inl, inr}
 use native.Mathlib.Omega.{arith}
 use lib.ListN.{length, take, drop, take-append-drop}
 use lib.Seq.{take-append-le, take-append-seam}
 use Rattle.sheet.specs.Shape.{Within}
-use Rattle.text.specs.Text.{line, lines, Short, Opens, Holds, Sides, FirstLine, Proper, GoesOn, StopsAt}
+use Rattle.text.specs.Text.{line, lines, Short, Opens, Sides, Proper, GoesOn, StopsAt}
 use Rattle.text.specs.Read.{kept, Opening, ProperOf, Rows, ReadsFirst, Parses}
 use Rattle.text.specs.declared.First.the-variants as F
 use Rattle.text.specs.declared.Text.the-variants as P

@@ -1,10 +1,10 @@
--- What the functions that read a text, and the private ones that read its parts, promise.
+-- What the functions that read a text, and those that read its parts, promise.
 -- Assumes nothing.
 use mathlib.Core.Bool.{Bool, cond, _&&_}
-use mathlib.Core.List.{List, [], _∷_, _++_, map}
+use mathlib.Core.List.{List, _∷_, _++_, map}
 use mathlib.Core.Logic.{_⊎_}
 use mathlib.Core.Path.{_≡_}
-use Prim.Native.Nat.{ℕ, zero, suc, _+_, _*_, _-_, _<_, _≤_}
+use Prim.Native.Nat.{ℕ, zero, suc, _+_, _*_, _-_, _≤_}
 use lib.Dec.{ltb}
 use lib.ListN.{length, drop}
 use Rattle.sheet.specs.Leaves.{within}
@@ -44,7 +44,7 @@ unfoldable pub turn : (c right : ℕ) → ℕ
 turn c zero = c
 turn c (suc right) = right
 
--- ---- of private functions
+-- ---- of its parts
 
 -- a test of the sides: 1 to 64 each
 unfoldable pub fits : (rows cols : ℕ) → Bool

@@ -2,11 +2,9 @@
 -- Assumes nothing.
 use mathlib.Core.Path.{_≡_, sym, ap, _∙_}
 use mathlib.Core.Bool.{true}
-use Prim.Native.Nat.{ℕ, _*_, _≤_, _<_}
-use native.Mathlib.Omega.{arith}
-use Rattle.sheet.proofs.Gather.{number-le}
+use Prim.Native.Nat.{ℕ, _*_, _<_}
 use Rattle.tile.specs.Border.{onBorder, borderCells, borderNumber, borderPlace}
-use Rattle.tile.proofs.Rank.{rank-rises, nth-is, nth-of, nth-rises}
+use Rattle.tile.proofs.Rank.{rank-rises, nth-is, nth-of}
 
 module _ (rows cols : ℕ) where
   -- ---- the place of border cell b
@@ -27,11 +25,6 @@ module _ (rows cols : ℕ) where
   pub place-once : (a b : ℕ) → a < borderCells rows cols → b < borderCells rows cols → borderPlace rows cols a ≡ borderPlace rows cols b → a ≡ b
   place-once a b la lb e = sym (place-number a la) ∙ ap (borderNumber rows cols) e ∙ place-number b lb
 
-  -- and the numbers go in order of place
-  pub place-rises : (a b : ℕ) → a < b → b < borderCells rows cols → borderPlace rows cols a < borderPlace rows cols b
-  unfolding borderCells borderPlace
-  place-rises a b l lb = nth-rises (onBorder rows cols) (rows * cols) a b l lb
-
   -- ---- the number of the border cell at place p
 
   pub number-below : (p : ℕ) → p < rows * cols → onBorder rows cols p ≡ true → borderNumber rows cols p < borderCells rows cols
@@ -41,17 +34,4 @@ module _ (rows cols : ℕ) where
   pub number-place : (p : ℕ) → p < rows * cols → onBorder rows cols p ≡ true → borderPlace rows cols (borderNumber rows cols p) ≡ p
   unfolding borderNumber borderPlace
   number-place p l e = nth-of (onBorder rows cols) (rows * cols) p l e
-
-  pub number-once : (p q : ℕ) → p < rows * cols → q < rows * cols → onBorder rows cols p ≡ true → onBorder rows cols q ≡ true
-      → borderNumber rows cols p ≡ borderNumber rows cols q → p ≡ q
-  number-once p q lp lq ep eq e = sym (number-place p lp ep) ∙ ap (borderPlace rows cols) e ∙ number-place q lq eq
-
-  pub number-rises : (p q : ℕ) → p < q → onBorder rows cols p ≡ true → borderNumber rows cols p < borderNumber rows cols q
-  unfolding borderNumber
-  number-rises p q l e = rank-rises (onBorder rows cols) p q l e
-
   -- ---- how many there are
-
-  pub cells-le : borderCells rows cols ≤ rows * cols
-  unfolding borderCells
-  cells-le = number-le (rows * cols) (onBorder rows cols)

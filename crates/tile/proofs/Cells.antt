@@ -53,11 +53,3 @@ module _ (rows cols : ℕ) where
         | inl z ↦ omega (arith, cells-thin z)
         | inr z ↦ elim (same rows 1) [ inl f ↦ omega (arith, cells-flat f) | inr f ↦ omega (arith, cells-round (omega arith) (omega arith)) ]
       ]
-
-  -- a tile has some
-  pub some-border : 0 < rows → 0 < cols → 0 < borderCells rows cols
-  some-border lr lc =
-      elim (same cols 1) [
-        | inl z ↦ omega (arith, cells-thin z)
-        | inr z ↦ elim (same rows 1) [ inl f ↦ omega (arith, cells-flat f) | inr f ↦ omega (arith, cells-round (omega arith) (omega arith)) ]
-      ]

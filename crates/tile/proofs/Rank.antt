@@ -74,10 +74,3 @@ module _ (t : ℕ → Bool) where
   nth-of n p l e =
       let (i, j, s) = nth-is n (number p t) (rank-rises p n l e) in
       rank-once (nth n t (number p t)) p j e s
-
-  -- in order
-  pub nth-rises : (n a b : ℕ) → a < b → b < number n t → nth n t a < nth n t b
-  nth-rises n a b l k =
-      let (_, _, ea) = nth-is n a (omega arith) in
-      let (_, _, eb) = nth-is n b k in
-      elim (below (nth n t a) (nth n t b)) [ inl h ↦ h | inr h ↦ absurd (omega (arith, number-mono (nth n t b) (nth n t a) h)) ]

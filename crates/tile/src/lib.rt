@@ -1,2 +1,2 @@
-// Tiles: their border cells, numbered in order of place.
+// Tiles: their border cells, numbered in order of place, and where the water of their cells leaves them.
 pub mod border;

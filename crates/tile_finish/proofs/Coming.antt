@@ -1,17 +1,16 @@
 -- What may come in at a border cell, for each way through the code that tests it.
 -- Assumes nothing.
-use mathlib.Core.Bool.{Bool, true, false, _||_, _&&_, true≢false}
+use mathlib.Core.Bool.{Bool, true, false, true≢false}
 use mathlib.Core.List.{List}
 use mathlib.Core.Logic.{inl, inr}
-use mathlib.Core.Path.{_≡_, refl, sym, ap, _∙_}
-use Prim.Native.Nat.{ℕ, _*_, _<_, _≤_}
-use native.Mathlib.Omega.{arith}
+use mathlib.Core.Path.{_≡_, sym, ap, _∙_}
+use Prim.Native.Nat.{ℕ, _<_, _≤_}
 use lib.Dec.{eqb, leb}
 use lib.ListN.{length, getD}
 use borrow.Author.Tests.{eqb-true, eq-eqb, leb-true, le-leb, lt-leb}
 use Rattle.flow.proofs.Sum.{test}
 use Rattle.sheet.specs.Compass.{isArrow}
-use Rattle.sheet.specs.Sheet.{landAt, countAt}
+use Rattle.sheet.specs.Sheet.{landAt}
 use Rattle.sheet.proofs.Dest.{land-read}
 use Rattle.tile.specs.Border.{borderPlace}
 use Rattle.tile_finish.specs.Finish.{IncomingOk}

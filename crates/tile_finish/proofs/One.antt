@@ -1,14 +1,13 @@
 -- The promise of finishing admits one outcome only: the same reply, and the same contents of counts and work buffer.
 -- Assumes nothing.
-use mathlib.Core.Bool.{cond, true, false}
+use mathlib.Core.Bool.{cond}
 use mathlib.Core.List.{List}
-use mathlib.Core.Path.{_≡_, refl, sym, ap, _∙_}
-use Prim.Native.Nat.{ℕ, _+_, _*_, _<_}
+use mathlib.Core.Path.{_≡_, refl, sym, _∙_}
+use Prim.Native.Nat.{ℕ, _+_, _*_}
 use native.Mathlib.Omega.{arith}
 use lib.Dec.{eqb}
 use lib.ListN.{length, getD}
 use lib.Seq.{ext-getD}
-use Rattle.flow.specs.Net.{NoLoop}
 use Rattle.flow.proofs.Count.{counts-unique, weighted-no-loop}
 use Rattle.promise.specs.Links.{AtMostOne}
 use Rattle.promise.specs.Reply.{Reply}
@@ -17,7 +16,7 @@ use Rattle.promise.proofs.One.{unless-one, unless-one-met, unless-all-one, unle
 use Rattle.sheet.specs.Sheet.{destOf, unit, countAt, SheetNoLoop}
 use Rattle.sheet.proofs.Dest.{dest-beyond, gives-unit}
 use Rattle.sheet.proofs.Unique.{loop-one}
-use Rattle.tile_finish.specs.Finish.{FinishPromise, FinishOutcome, Finished, FinishedCounts, comesAt, finishReply, ends}
+use Rattle.tile_finish.specs.Finish.{FinishPromise, Finished, FinishedCounts, comesAt, finishReply, ends}
 use Rattle.tile_finish.specs.declared.FinishReply.{FinishReply}
 use Rattle.tile_finish.specs.declared.FinishReply.the-variants.{Done, Shape, Length, Code, Loop, Incoming}
 

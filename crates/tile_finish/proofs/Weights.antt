@@ -1,18 +1,17 @@
 -- What the cells of a tile add, with what comes in: it is what the method counts with, and it fits into 32 bits.
 -- Assumes nothing.
-use mathlib.Core.Bool.{Bool, true, false}
+use mathlib.Core.Bool.{false}
 use mathlib.Core.List.{List}
 use mathlib.Core.Logic.{inl, inr}
-use mathlib.Core.Path.{_≡_, refl, sym, ap, _∙_}
+use mathlib.Core.Path.{_≡_, ap, _∙_}
 use Prim.Native.Nat.{ℕ, _+_, _*_, _<_, _≤_}
 use native.Mathlib.Nat.{mul-le-mul}
 use native.Mathlib.Omega.{arith}
-use lib.ListN.{length}
 use Rattle.scan.specs.Scan.{weight, WeightsFit}
-use Rattle.flow.specs.Net.{on, sum, number, Counts}
+use Rattle.flow.specs.Net.{on, sum}
 use Rattle.flow.proofs.Sum.{test, on-true, on-false, sum-add, sum-mono, sum-ones, sum-times}
 use Rattle.sheet.specs.Shape.{TileShape}
-use Rattle.sheet.specs.Sheet.{landAt, destOf, unit, countAt}
+use Rattle.sheet.specs.Sheet.{landAt, unit, countAt}
 use Rattle.tile.specs.Border.{onBorder, borderCells, borderNumber}
 use Rattle.tile.proofs.Borders.{number-below, number-place}
 use Rattle.tile.proofs.Cells.{cells-most}

@@ -1,11 +1,10 @@
 -- Finishing in the paper's words: a finished cell holds its tile count and the incoming of the border cells at it or upstream of it.
 -- Assumes nothing.
-use mathlib.Core.Bool.{Bool, true, false, _||_}
+use mathlib.Core.Bool.{Bool, _||_}
 use mathlib.Core.List.{List}
 use mathlib.Core.Logic.{inl, inr}
-use mathlib.Core.Path.{_≡_, refl, sym, ap, _∙_}
+use mathlib.Core.Path.{_≡_, ap, _∙_}
 use Prim.Native.Nat.{ℕ, _+_, _*_, _<_}
-use native.Mathlib.Omega.{arith}
 use lib.Dec.{eqb}
 use lib.ListN.{length}
 use Rattle.flow.specs.Net.{on, sum, downb}
@@ -16,13 +15,9 @@ use Rattle.sheet.specs.Sheet.{destOf, unit, countAt, SheetCounts, SheetNoLoop}
 use Rattle.sheet.proofs.Dest.{dest-beyond}
 use Rattle.tile.specs.Border.{borderCells, borderNumber, borderPlace, onBorder}
 use Rattle.tile.proofs.Borders.{place-in, place-once, number-below, number-place}
-use Rattle.tile_finish.specs.Finish.{FinishedCounts, comesAt}
+use Rattle.tile_finish.specs.Finish.{FinishedCounts, comesAt, atOrAbove}
 use Rattle.tile_finish.proofs.Laying.{comes-off, comes-place}
 use Rattle.tile_finish.proofs.One.{finished-no-loop}
-
--- border cell b is at p or upstream of p
-abbrev pub atOrAbove : (rows cols : ℕ) (grid : List ℕ) (p b : ℕ) → Bool
-atOrAbove rows cols grid p b = eqb (borderPlace rows cols b) p || downb (rows * cols) (destOf rows cols grid) (borderPlace rows cols b) p
 
 module _ (rows cols : ℕ) (grid incoming : List ℕ) where
   borders-placed : Places (borderCells rows cols) (rows * cols) (borderPlace rows cols)

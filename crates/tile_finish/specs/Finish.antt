@@ -1,11 +1,12 @@
 -- The promise of finishing a tile (paper 01, "Replies and what remains" and "Tiles and their border records"): 1, 2, 3, 10, 4, done.
 -- Assumes nothing.
-use mathlib.Core.Bool.{Bool, true, false}
+use mathlib.Core.Bool.{Bool, false, _||_}
 use mathlib.Core.List.{List, [], _∷_}
 use mathlib.Core.Path.{_≡_}
 use Prim.Native.Nat.{ℕ, _+_, _*_, _≤_}
+use lib.Dec.{eqb}
 use lib.ListN.{length, replicate}
-use Rattle.flow.specs.Net.{on, Counts}
+use Rattle.flow.specs.Net.{on, Counts, downb}
 use Rattle.promise.specs.Links.{Unless, UnlessAll, UnlessSome, _then_}
 use Rattle.promise.specs.Reply.{Reply}
 use Rattle.promise.specs.Reply.Reply.{reply}
@@ -80,3 +81,9 @@ FinishPromise rows cols grid incoming counts work =
     Unless (TileShape rows cols) (ends (reply 1 []) counts work) then
     Unless (FinishLengths rows cols grid incoming counts work) (ends (reply 2 []) counts work) then
     FinishCells rows cols grid incoming counts work
+
+-- ---- the paper's words for a finished count
+
+-- border cell b is at p or upstream of p
+abbrev pub atOrAbove : (rows cols : ℕ) (grid : List ℕ) (p b : ℕ) → Bool
+atOrAbove rows cols grid p b = eqb (borderPlace rows cols b) p || downb (rows * cols) (destOf rows cols grid) (borderPlace rows cols b) p

@@ -2,14 +2,13 @@
 -- Assumes nothing.
 use mathlib.Core.List.{List, [], _∷_}
 use mathlib.Core.Path.{_≡_}
-use Prim.Native.Nat.{ℕ, _+_, _*_, _≤_}
+use Prim.Native.Nat.{ℕ, _*_, _≤_}
 use lib.ListN.{length, replicate}
 use Rattle.promise.specs.Links.{Unless, UnlessAll, UnlessSome, _then_}
 use Rattle.promise.specs.Reply.{Reply}
 use Rattle.promise.specs.Reply.Reply.{reply}
 use Rattle.sheet.specs.Shape.{TileShape}
 use Rattle.sheet.specs.Sheet.{CodeOk, SheetCounts, LoopIn}
-use Rattle.tile.specs.Border.{borderCells}
 use Rattle.tile_bytes.specs.Bytes.{recordBytes, recordLength}
 use Rattle.tile_record.specs.declared.RecordReply.{RecordReply}
 use Rattle.tile_record.specs.declared.RecordReply.the-variants.{Done, Shape, Layout, Length, Code, Loop}

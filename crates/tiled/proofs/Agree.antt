@@ -1,12 +1,12 @@
 -- Two tellings of a mosaic's sides that agree on its tile rows and tile columns tell one mosaic: the records of a mosaic tell its sides again.
 -- Assumes nothing.
 use mathlib.Core.List.{List}
-use mathlib.Core.Path.{_≡_, refl, sym, ap, ap₂, _∙_}
-use Prim.Native.Nat.{ℕ, _+_, _*_, _/_, _%_, _<_, _≤_}
+use mathlib.Core.Path.{_≡_, sym, ap, ap₂, _∙_}
+use Prim.Native.Nat.{ℕ, _*_, _/_, _%_, _<_, _≤_}
 use native.Mathlib.Omega.{arith}
 use Rattle.flow.specs.Net.{sum}
 use Rattle.flow.proofs.Sum.{sum-ext}
-use Rattle.mosaic.specs.Layout.{Fits, Cut, sheetRows, sheetCols, heightOf, widthOf, cellsIn, spotAt, sheetPlace, bordersIn, bordersBefore, allBorders}
+use Rattle.mosaic.specs.Layout.{Fits, Cut, sheetRows, sheetCols, heightOf, widthOf, cellsIn, sheetPlace, bordersIn, bordersBefore, allBorders}
 use Rattle.mosaic.proofs.Pieces.{row-in, col-in}
 use Rattle.sheet.specs.Sheet.{codeAt}
 use Rattle.tile.specs.Border.{borderCells}

@@ -1,15 +1,12 @@
 -- Joining the records of a cut sheet, all of them written: refused for a loop exactly where the sheet has one, and otherwise what comes in at each border
 -- cell is what the whole sheet's counts bring there.
 -- Assumes nothing.
-use mathlib.Core.List.{List, [], _∷_}
-use mathlib.Core.Logic.{_⊎_, inl, inr, _↔_}
-use mathlib.Core.Path.{_≡_, refl, sym, ap, _∙_}
-use Prim.Native.Nat.{ℕ, _+_, _*_, _<_, _≤_}
-use native.Mathlib.Omega.{arith}
-use lib.ListN.{length}
-use Rattle.flow.specs.Net.{NoLoop, OnLoop, FirstLoop}
-use Rattle.mosaic.specs.Join.{Tells, TilesFree, feeds}
-use Rattle.mosaic.specs.Layout.{Fits, Cut, sheetRows, sheetCols, heightOf, widthOf, allBorders, borderSheetPlace}
+use mathlib.Core.List.{List}
+use mathlib.Core.Logic.{_⊎_, inl, inr}
+use mathlib.Core.Path.{_≡_, sym, ap, _∙_}
+use Prim.Native.Nat.{ℕ, _*_, _<_}
+use Rattle.mosaic.specs.Join.{Tells, TilesFree}
+use Rattle.mosaic.specs.Layout.{Fits, Cut, sheetRows, sheetCols, allBorders, borderSheetPlace}
 use Rattle.mosaic.proofs.Tiled.{tiled-loop}
 use Rattle.mosaic_join.specs.Joining.{JoinOutcome, JoinExits, Joined, JoinLengths, ExitLoop}
 use Rattle.mosaic_read.specs.Read.{MosaicShape}
@@ -18,7 +15,7 @@ use Rattle.mosaic_read.specs.Said.{saidCount, saidWay, saidCode}
 use Rattle.promise.specs.Links.UnlessSome.{refused-with, met-none}
 use Rattle.promise.specs.Reply.{numberOf}
 use Rattle.promise.proofs.Apart.{unless-ok, unless-all-ok}
-use Rattle.sheet.specs.Sheet.{LoopFound, SheetOnLoop, SheetNoLoop}
+use Rattle.sheet.specs.Sheet.{LoopFound}
 use Rattle.tiled.specs.Run.{CutSheet, Writing, Joining, recordsOf, SheetHasLoop}
 use Rattle.tiled.proofs.Agree.{rows-agree, cols-agree, height-agree, width-agree, all-agree, fits-agree, cut-agree}
 use Rattle.tiled.proofs.Steps.{Wrote, wrote-free}

@@ -1,20 +1,18 @@
 -- The records of a cut sheet, strung one behind the other, are read as they were written: each is well formed, and says its tile's sides, counts and ways.
 -- Assumes nothing.
 use mathlib.Core.List.{List}
-use mathlib.Core.Logic.{inl, inr}
-use mathlib.Core.Path.{_≡_, refl, sym, ap, ap₂, _∙_}
+use mathlib.Core.Path.{_≡_, ap, ap₂, _∙_}
 use Prim.Native.Nat.{ℕ, zero, suc, _+_, _*_, _/_, _%_, _<_, _≤_}
 use native.Mathlib.Nat.{mul-le-mul}
 use native.Mathlib.Omega.{arith}
 use lib.ListN.{length, getD}
 use Rattle.flow.specs.Net.{sum}
-use Rattle.flow.proofs.Sum.{sum-ext, sum-suc}
-use Rattle.mosaic.specs.Layout.{heightOf, widthOf, cellsIn, bordersIn, placeIn}
-use Rattle.mosaic.proofs.Pieces.{piece-below, piece-before}
-use Rattle.mosaic_read.specs.Records.{startOf, rowsOf, colsOf, tileRowOf, tileColOf, bordersOf, countIn, wayIn, codeIn, twoAt, fourAt, byteAt, endAt, SidesOk, CountsOk, WaysOk}
+use Rattle.mosaic.specs.Layout.{heightOf, widthOf}
+use Rattle.mosaic.proofs.Pieces.{piece-before}
+use Rattle.mosaic_read.specs.Records.{startOf, rowsOf, colsOf, bordersOf, twoAt, fourAt, byteAt, SidesOk, CountsOk, WaysOk}
 use Rattle.mosaic_read.proofs.Starts.{start-none, start-next}
 use Rattle.sheet.specs.Shape.{TileShape}
-use Rattle.sheet.specs.Sheet.{countAt, SheetCounts}
+use Rattle.sheet.specs.Sheet.{countAt}
 use Rattle.tile.specs.Border.{borderCells, borderPlace}
 use Rattle.tile.specs.Way.{wayAt}
 use Rattle.tile.proofs.Borders.{place-in}

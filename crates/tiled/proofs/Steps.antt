@@ -1,13 +1,12 @@
 -- Writing the record of a tile of a cut sheet: refused for a loop where the tile has one, and done where it has none.
 -- Assumes nothing.
-use mathlib.Core.List.{List, [], _∷_}
+use mathlib.Core.List.{List}
 use mathlib.Core.Logic.{_⊎_, inl, inr}
-use mathlib.Core.Path.{_≡_, refl, sym, ap, _∙_}
-use Prim.Native.Nat.{ℕ, _+_, _*_, _/_, _%_, _<_, _≤_}
+use mathlib.Core.Path.{_≡_, ap, _∙_}
+use Prim.Native.Nat.{ℕ, _*_, _/_, _%_, _<_, _≤_}
 use native.Mathlib.Nat.{div-le-self, mod-le}
 use native.Mathlib.Omega.{arith}
-use lib.ListN.{length}
-use Rattle.mosaic.specs.Layout.{Fits, Cut, sheetRows, sheetCols, heightOf, widthOf, cellsIn, sheetPlace}
+use Rattle.mosaic.specs.Layout.{heightOf, widthOf, cellsIn, sheetPlace}
 use Rattle.mosaic.proofs.Grid.{tile-below}
 use Rattle.mosaic.proofs.Pieces.{row-in, col-in}
 use Rattle.promise.specs.Links.UnlessSome.{refused-with, met-none}
@@ -15,7 +14,7 @@ use Rattle.promise.specs.Reply.{numberOf}
 use Rattle.promise.proofs.Apart.{unless-ok, unless-all-ok}
 use Rattle.sheet.specs.Compass.{isCode}
 use Rattle.sheet.specs.Shape.{TileShape}
-use Rattle.sheet.specs.Sheet.{CodeOk, SheetOnLoop, SheetNoLoop, LoopIn}
+use Rattle.sheet.specs.Sheet.{CodeOk, SheetOnLoop, SheetNoLoop}
 use Rattle.sheet.proofs.Passes.{counts-no-loop}
 use Rattle.tile_record.specs.Record.{Recorded, RecordAnswer, RecordOutcome, TilePosition}
 use Rattle.tiled.specs.Run.{CutSheet, Writing}

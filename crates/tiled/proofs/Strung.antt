@@ -3,12 +3,12 @@
 use mathlib.Core.List.{List, _++_}
 use mathlib.Core.Logic.{inl, inr}
 use mathlib.Core.Path.{_≡_, refl, sym, ap, _∙_}
-use Prim.Native.Nat.{ℕ, zero, suc, _+_, _<_, _≤_}
+use Prim.Native.Nat.{ℕ, zero, suc, _+_, _<_}
 use native.Mathlib.Omega.{arith}
 use lib.ListN.{length, getD, length-append, List·getD-append}
 use lib.Seq.{getD-append-add}
 use Rattle.flow.specs.Net.{sum}
-use Rattle.flow.proofs.Sum.{same, sum-suc}
+use Rattle.flow.proofs.Sum.{same}
 use Rattle.mosaic.proofs.Pieces.{piece-below}
 use Rattle.tile_bytes.specs.Bytes.{each}
 

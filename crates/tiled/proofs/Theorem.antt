@@ -1,41 +1,29 @@
 -- THE TILED THEOREM (paper 01, "Demand 2 over tiles"), of the promises: some step refuses for a loop exactly where the whole sheet has one; otherwise the
 -- finished tiles hold the whole sheet's counts.
 -- Assumes nothing.
-use mathlib.Core.Bool.{Bool, true, false, cond}
-use mathlib.Core.List.{List, [], _∷_}
+use mathlib.Core.List.{List}
 use mathlib.Core.Logic.{_⊎_, inl, inr, _↔_}
-use mathlib.Core.Path.{_≡_, refl, sym, ap, ap₂, _∙_}
-use Prim.Native.Nat.{ℕ, zero, suc, _+_, _*_, _/_, _%_, _<_, _≤_}
+use mathlib.Core.Path.{_≡_, ap}
+use Prim.Native.Nat.{ℕ, zero, suc, _*_, _<_, _≤_}
 use native.Mathlib.Omega.{arith}
-use lib.ListN.{length}
-use Rattle.flow.specs.Net.{Counts, NoLoop, FirstLoop}
-use Rattle.flow.proofs.Loop.{loop-or-free, first-loop-free}
-use Rattle.flow.proofs.Sum.{same, test}
-use Rattle.flow.proofs.Totals.{counts-weights}
-use Rattle.mosaic.specs.Join.{TilesFree, comesIn, comesAt, feeds}
-use Rattle.mosaic.specs.Layout.{Fits, Cut, sheetRows, sheetCols, heightOf, widthOf, cellsIn, sheetPlace, bordersIn, bordersBefore, borderSheetPlace, placeIn}
-use Rattle.mosaic.proofs.Borders.{border-at, border-below}
-use Rattle.mosaic.proofs.Counted.{comes-fit, comes-dry, tiled-counts}
-use Rattle.mosaic.proofs.Cuts.{same-land}
+use Rattle.flow.specs.Net.{NoLoop}
+use Rattle.flow.proofs.Loop.{loop-or-free}
+use Rattle.flow.proofs.Sum.{same}
+use Rattle.mosaic.specs.Layout.{sheetRows, sheetCols, heightOf, widthOf}
 use Rattle.mosaic.proofs.Tiled.{tile-free, join-free}
 use Rattle.mosaic.proofs.Totals.{feeds-out}
-use Rattle.mosaic_join.specs.Joining.{JoinOutcome, Joined, ExitLoop, borders, feedsBy}
+use Rattle.mosaic_join.specs.Joining.{ExitLoop, borders, feedsBy}
 use Rattle.mosaic_read.specs.Records.{heights, widths}
 use Rattle.mosaic_read.specs.Said.{saidCount, saidWay, saidCode}
-use Rattle.promise.specs.Reply.{Reply, numberOf}
-use Rattle.promise.specs.Reply.Reply.{reply}
-use Rattle.promise.proofs.Apart.{unless-ok, unless-all-ok, unless-some-ok}
-use Rattle.sheet.specs.Sheet.{LoopFound, landAt, destOf, unit, countAt, SheetCounts, SheetOnLoop, SheetNoLoop}
+use Rattle.promise.specs.Reply.{numberOf}
+use Rattle.sheet.specs.Sheet.{LoopFound, destOf, SheetOnLoop, SheetNoLoop}
 use Rattle.sheet.proofs.Dest.{dest-beyond}
-use Rattle.tile.specs.Border.{onBorder, borderNumber, borderCells, borderPlace}
 use Rattle.tile.proofs.Borders as T
 use Rattle.tile_finish.specs.Finish as F
-use Rattle.tile_finish.proofs.Laying.{comes-on, comes-off}
-use Rattle.tiled.specs.Run.{CutSheet, Writing, Joining, Finishing, recordsOf, SomeStepRefuses, SheetHasLoop}
-use Rattle.tiled.proofs.Agree.{height-agree, width-agree, cells-agree, at-agree, before-agree, borders-agree}
+use Rattle.tiled.specs.Run.{CutSheet, Writing, Joining, recordsOf, SomeStepRefuses, SheetHasLoop}
 use Rattle.tiled.proofs.Joins.{fits-told, cut-told, free-told, tells-told, sheet-same, cols-same, join-says}
-use Rattle.tiled.proofs.Steps.{Wrote, record-says, wrote-free, tile-shape, tile-codes}
-use Rattle.tiled.proofs.Told.{same-height, same-width, own, own-counts}
+use Rattle.tiled.proofs.Steps.{Wrote, record-says}
+use Rattle.tiled.proofs.Told.{own}
 
 module _ (I J : ℕ) (hs ws : ℕ → ℕ) (sheet : List ℕ) (tiles : ℕ → List ℕ) (s : CutSheet I J hs ws sheet tiles) (w : Writing I J hs ws sheet tiles) where
   abbrev R : ℕ

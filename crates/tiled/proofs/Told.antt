@@ -1,25 +1,23 @@
 -- The records of a cut sheet say its mosaic's sides again, they are all well formed, and they tell the truth of its tiles.
 -- Assumes nothing.
-use mathlib.Core.Bool.{Bool, true, false}
 use mathlib.Core.List.{List}
 use mathlib.Core.Logic.{inl, inr}
-use mathlib.Core.Path.{_≡_, refl, sym, ap, ap₂, _∙_}
-use Prim.Native.Nat.{ℕ, zero, suc, _+_, _*_, _/_, _%_, _<_, _≤_}
-use native.Mathlib.Nat.{mul-le-mul-right, mul-div-cancel, div-le-self, mod-le, mod-eq-of-lt, mod-lt, div-lt-iff-lt-mul}
+use mathlib.Core.Path.{_≡_, sym, ap, ap₂, _∙_}
+use Prim.Native.Nat.{ℕ, zero, suc, _*_, _/_, _%_, _<_}
+use native.Mathlib.Nat.{mul-le-mul-right, mul-div-cancel, div-le-self, mod-le, mod-eq-of-lt}
 use native.Mathlib.Omega.{arith}
 use lib.ListN.{length}
-use Rattle.flow.specs.Net.{sum, Counts, NoLoop}
+use Rattle.flow.specs.Net.{sum, Counts}
 use Rattle.flow.proofs.Through.{through}
 use Rattle.flow.proofs.Count.{counts-through, through-counts}
-use Rattle.flow.proofs.Sum.{test, sum-ext}
+use Rattle.flow.proofs.Sum.{test}
 use Rattle.mosaic.specs.Join.{Tells}
-use Rattle.mosaic.specs.Layout.{Fits, Cut, sheetRows, sheetCols, heightOf, widthOf, cellsIn, bordersIn, bordersBefore, placeIn}
+use Rattle.mosaic.specs.Layout.{heightOf, widthOf, cellsIn, bordersIn, placeIn}
 use Rattle.mosaic.proofs.Borders.{border-tile, border-in, place-in}
 use Rattle.mosaic.proofs.Pieces.{row-in, col-in, starts-rise}
-use Rattle.mosaic_read.specs.Read.{faultAt}
-use Rattle.mosaic_read.specs.Records.{startOf, rowsOf, colsOf, bordersOf, countIn, wayIn, codeIn, heights, widths, PartOk, PlacedOk}
+use Rattle.mosaic_read.specs.Records.{startOf, rowsOf, colsOf, bordersOf, heights, widths, PartOk, PlacedOk}
 use Rattle.mosaic_read.specs.Said.{saidCount, saidWay, saidCode}
-use Rattle.sheet.specs.Sheet.{destOf, unit, countAt, landAt, SheetNoLoop}
+use Rattle.sheet.specs.Sheet.{destOf, unit, countAt, landAt}
 use Rattle.sheet.proofs.Dest.{dest-beyond}
 use Rattle.tile.specs.Border.{borderCells, borderPlace}
 use Rattle.tile.specs.Way.{Way, crosses, lastCell, wayAt}
@@ -27,7 +25,7 @@ use Rattle.tile.proofs.Borders as T
 use Rattle.tile.proofs.Cells.{cells-most}
 use Rattle.tile.proofs.Ways.{way-absent, way-inside, way-over, way-number}
 use Rattle.tiled.specs.Run.{CutSheet, Writing, recordsOf}
-use Rattle.tiled.proofs.Agree.{borders-agree, before-agree, height-agree, width-agree, fits-agree, rows-agree, cols-agree}
+use Rattle.tiled.proofs.Agree.{borders-agree, height-agree, width-agree, rows-agree, cols-agree}
 use Rattle.tiled.proofs.Read.{bytes-long, start-is, rows-at, cols-at, row-at, col-at, count-at, way-at, code-at, sides-ok, counts-ok, ways-ok}
 use Rattle.tiled.proofs.Steps.{tile-shape, Wrote, wrote-free}
 

@@ -1,23 +1,23 @@
 -- What a tile's own record says of its border cells is well formed: the absent mark exactly where the count is 0, and ways that lead outside.
 -- Assumes nothing.
-use mathlib.Core.Bool.{Bool, true, false, true≢false}
+use mathlib.Core.Bool.{true}
 use mathlib.Core.List.{List}
 use mathlib.Core.Logic.{inl, inr}
-use mathlib.Core.Path.{_≡_, refl, sym, ap, _∙_}
-use Prim.Native.Nat.{ℕ, _+_, _*_, _<_, _≤_}
+use mathlib.Core.Path.{_≡_, sym, ap, _∙_}
+use Prim.Native.Nat.{ℕ, _*_, _<_, _≤_}
 use native.Mathlib.Omega.{arith}
 use lib.ListN.{length}
 use Rattle.flow.specs.Net.{number}
 use Rattle.flow.proofs.Bound.{counts-bound}
 use Rattle.flow.proofs.Sum.{test, on-true}
-use Rattle.sheet.specs.Compass.{isArrow, stepOf}
+use Rattle.sheet.specs.Compass.{isArrow}
 use Rattle.sheet.specs.Shape.{TileShape}
-use Rattle.sheet.specs.Sheet.{landAt, stepFrom, destOf, unit, countAt, SheetCounts, SheetNoLoop}
+use Rattle.sheet.specs.Sheet.{landAt, destOf, unit, countAt, SheetCounts, SheetNoLoop}
 use Rattle.sheet.proofs.Dest.{dest-beyond}
 use Rattle.sheet.proofs.Gather.{number-le}
 use Rattle.sheet.proofs.Passes.{counts-no-loop, absent-zero}
 use Rattle.tile.specs.Border.{borderCells, borderNumber, borderPlace}
-use Rattle.tile.specs.Way.{Way, crosses, lastCell, noWay, endsInside, over, wayAt}
+use Rattle.tile.specs.Way.{Way, crosses, lastCell, over, wayAt}
 use Rattle.tile.proofs.Borders.{place-in}
 use Rattle.tile.proofs.Cells.{cells-most}
 use Rattle.tile.proofs.Ways.{crosses-land, crosses-step, way-absent, way-inside, way-over, way-number, way-place, way-same}

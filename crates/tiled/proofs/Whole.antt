@@ -1,22 +1,22 @@
 -- THE TILED THEOREM, of counts: where the whole sheet has no loop, every step is done, and the finished tiles hold the whole sheet's counts, cell by cell.
 -- Assumes nothing.
-use mathlib.Core.Bool.{Bool, true, false, cond}
-use mathlib.Core.List.{List, [], _∷_}
-use mathlib.Core.Logic.{_⊎_, inl, inr}
-use mathlib.Core.Path.{_≡_, refl, sym, ap, ap₂, _∙_}
-use Prim.Native.Nat.{ℕ, zero, suc, _+_, _*_, _/_, _%_, _<_, _≤_}
+use mathlib.Core.Bool.{false}
+use mathlib.Core.List.{List, []}
+use mathlib.Core.Logic.{inl, inr}
+use mathlib.Core.Path.{_≡_, sym, ap, ap₂, _∙_}
+use Prim.Native.Nat.{ℕ, _+_, _*_, _<_, _≤_}
 use native.Mathlib.Omega.{arith}
-use Rattle.flow.specs.Net.{Counts, NoLoop}
+use Rattle.flow.specs.Net.{Counts}
 use Rattle.flow.proofs.Loop.{first-loop-free}
 use Rattle.flow.proofs.Sum.{test}
 use Rattle.flow.proofs.Totals.{counts-weights}
-use Rattle.mosaic.specs.Join.{Totals, comesIn, comesAt}
+use Rattle.mosaic.specs.Join.{comesIn, comesAt}
 use Rattle.mosaic.specs.Layout.{sheetRows, sheetCols, heightOf, widthOf, cellsIn, sheetPlace, bordersIn, bordersBefore, allBorders, borderSheetPlace, placeIn}
 use Rattle.mosaic.proofs.Borders.{border-at, border-below}
 use Rattle.mosaic.proofs.Counted.{comes-fit, comes-dry, tiled-counts}
 use Rattle.mosaic.proofs.Cuts.{same-land}
 use Rattle.mosaic.proofs.Tiled.{tile-free}
-use Rattle.mosaic_join.specs.Joining.{Joined, ExitLoop}
+use Rattle.mosaic_join.specs.Joining.{Joined}
 use Rattle.mosaic_read.specs.Records.{heights, widths}
 use Rattle.mosaic_read.specs.Said.{saidCount, saidWay, saidCode}
 use Rattle.promise.specs.Reply.Reply.{reply}

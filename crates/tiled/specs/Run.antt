@@ -8,7 +8,7 @@ use Prim.Native.Nat.{ℕ, _+_, _*_, _/_, _%_, _<_}
 use lib.ListN.{length}
 use Rattle.mosaic.specs.Layout.{Fits, Cut, sheetRows, sheetCols, heightOf, widthOf, bordersIn, bordersBefore, allBorders}
 use Rattle.mosaic_join.specs.Joining.{JoinOutcome, JoinPromise, Work}
-use Rattle.promise.specs.Reply.{Reply, numberOf}
+use Rattle.promise.specs.Reply.{numberOf}
 use Rattle.sheet.specs.Sheet.{CodeOk, countAt, SheetOnLoop}
 use Rattle.tile_finish.specs.Finish.{FinishOutcome, FinishLengths, FinishPromise}
 use Rattle.tile_bytes.specs.Bytes.{each}

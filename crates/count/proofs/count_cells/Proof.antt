@@ -1,6 +1,6 @@
 -- `count::count_cells` meets its contract: a bad code, or what is said after the scan.
 -- Assumes nothing.
-use mathlib.Core.Path.{_≡_, refl, ap, _∙_}
+use mathlib.Core.Path.{refl, ap, _∙_}
 use lib.ListN.{length, replicate, length-replicate}
 use Prim.Native.Nat.{ℕ}
 use Rattle.promise.specs.Links.UnlessAll.{refused-at, met-all}

@@ -1,5 +1,5 @@
 -- `main` is safe and ends: what is written lies within its buffer.
--- Assumes nothing.
+-- Assumes the contracts of the kit's input and output.
 use mathlib.Core.Path.{sym}
 use native.Mathlib.Omega.{arith}
 use lib.Seq.{length-take-le}

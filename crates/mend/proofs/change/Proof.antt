@@ -1,7 +1,7 @@
 -- `mend::change` meets its contract: the code is already there, or it would close a loop, or the cell is taken out and put in.
 -- Assumes nothing.
 use Rattle.sheet.proofs.Places.{laid-on}
-use Rattle.mend.proofs.Moves.{lent-free}
+use Rattle.mend_moves.proofs.Moves.{lent-free}
 use Rattle.mend.proofs.Answers.{answers-same, answers-loop, put-ready, answers-mended}
 use borrow.Author.Needs.{needs}
 use Rattle.mend.proofs.change.Statement.{statement}

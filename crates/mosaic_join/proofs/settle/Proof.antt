@@ -1,7 +1,6 @@
 -- `mosaic_join::settle` meets its contract: exits feed each other round, or what comes in is gathered.
 -- Assumes nothing.
 use mathlib.Core.Path.{refl, sym, ap, _∙_}
-use native.Mathlib.Omega.{arith}
 use Prim.Native.Nat.{ℕ}
 use lib.ListN.{replicate}
 use Rattle.mosaic_join.proofs.Answers.{net-lent, loop-is, gather-lent, answers-loop, answers-done}

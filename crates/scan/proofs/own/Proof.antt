@@ -1,7 +1,7 @@
 -- `scan::own` meets its contract: within the list, and beyond it.
 -- Assumes nothing.
-use native.Mathlib.Omega.{arith}
 use lib.ListN.{List·getD-eq-default}
+use native.Mathlib.Omega.{arith}
 use borrow.Author.Needs.{needs}
 use Rattle.scan.proofs.own.Statement.{statement}
 use Rattle.scan.proofs.own.Tie as tie

@@ -1,10 +1,10 @@
 -- `scan::scan` meets its contract: each turn takes the scan one row on.
 -- Assumes nothing.
-use mathlib.Core.Path.{_≡_, sym, ap, _∙_}
+use mathlib.Core.Path.{_≡_, ap}
 use native.Mathlib.Nat.{suc-mul}
 use native.Mathlib.Numerals.{add-one}
 use native.Mathlib.Omega.{arith}
-use Prim.Native.Nat.{ℕ, _+_, _-_, _*_, _≤_, _<_}
+use Prim.Native.Nat.{ℕ, _-_, _*_, _≤_}
 use Rattle.sheet.proofs.Places.{laid-area, laid-on}
 use Rattle.scan.specs.Scan.{Counting, found}
 use Rattle.scan.proofs.Scanning.{found-le, none-found, scan-begins, scan-place-on}

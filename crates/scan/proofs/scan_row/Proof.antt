@@ -1,9 +1,8 @@
 -- `scan::scan_row` meets its contract: each turn takes the scan one place on.
 -- Assumes nothing.
-use mathlib.Core.Path.{_≡_, sym, ap, _∙_}
-use native.Mathlib.Numerals.{add-one}
+use mathlib.Core.Path.{_≡_}
 use native.Mathlib.Omega.{arith}
-use Prim.Native.Nat.{ℕ, _+_, _-_, _*_, _≤_, _<_}
+use Prim.Native.Nat.{_+_, _-_, _*_, _≤_}
 use Rattle.sheet.proofs.Places.{laid-area, laid-on}
 use Rattle.scan.specs.Scan.{Counting, found}
 use Rattle.scan.proofs.Scanning.{found-le, scan-place-on}

@@ -1,6 +1,5 @@
 -- `scan::walk` meets its contract: each turn is a step of the method.
 -- Assumes nothing.
-use mathlib.Core.Path.{_≡_, refl}
 use Prim.Native.Nat.{_+_, _*_}
 use native.Mathlib.Omega.{arith}
 use Rattle.sheet.proofs.Places.{laid-on}

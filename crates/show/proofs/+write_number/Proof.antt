@@ -3,7 +3,6 @@
 use native.Mathlib.Omega.{arith}
 use Rattle.text.proofs.Decimal.{decimal-some, step-long}
 use Rattle.show.proofs.Wrote.{wrote-is, wrote-then, wrote-long, one-digit, last-digit}
-use borrow.Author.Needs.{needs}
 use Prim.Native.Nat.{ℕ, _<_}
 use borrow.Fn.Kinds.{In}
 use borrow.Fn.PlainCycle.{Measures, is, falls, and}

@@ -1,10 +1,9 @@
 -- `show::write_grid` meets its contract: the numbers shown so far, each with the byte after it.
 -- Assumes nothing.
-use Prim.Native.Nat.{_+_, _*_, _-_, _≤_}
-use mathlib.Core.Path.{_≡_, ap}
+use Prim.Native.Nat.{_-_, _≤_}
 use native.Mathlib.Omega.{arith}
 use lib.ListN.{length}
-use Rattle.text.proofs.Flat.{flat, flat-rows}
+use Rattle.text.proofs.Flat.{flat-rows}
 use Rattle.show.proofs.Wrote.{Shown, shown-none, shown-room, shown-next, shown-all, wrote-long, wrote-is, grid-room}
 use borrow.Author.Needs.{needs}
 use Rattle.show.proofs.write_grid.Statement.{statement}

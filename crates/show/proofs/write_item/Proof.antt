@@ -1,7 +1,7 @@
 -- `show::write_item` meets its contract: a word, then a number.
 -- Assumes nothing.
 use native.Mathlib.Omega.{arith}
-use Rattle.show.proofs.Wrote.{wrote-then, wrote-long, wrote-is, decimal-20, item-long, lines-most}
+use Rattle.show.proofs.Wrote.{wrote-then, wrote-long, decimal-20}
 use borrow.Author.Needs.{needs}
 use Rattle.show.proofs.write_item.Statement.{statement}
 use Rattle.show.proofs.write_item.Tie as tie

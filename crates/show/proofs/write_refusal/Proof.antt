@@ -1,10 +1,8 @@
 -- `show::write_refusal` meets its contract: the bytes of its word are those of the definition.
 -- Assumes nothing.
 use Rattle.show.proofs.Lines.{refusal-none}
-use mathlib.Core.List.{append-nil}
 use Rattle.show.specs.Show.{word, places}
-use native.Mathlib.Omega.{arith}
-use Rattle.show.proofs.Wrote.{wrote-then, wrote-long, wrote-is, decimal-20, item-long, lines-most}
+use Rattle.show.proofs.Wrote.{wrote-long, wrote-is}
 use borrow.Author.Needs.{needs}
 use Rattle.show.proofs.write_refusal.Statement.{statement}
 use Rattle.show.proofs.write_refusal.Tie as tie

@@ -1,11 +1,7 @@
 -- `show::write_refusal_loop` meets its contract: the bytes of its words are those of the definition.
 -- Assumes nothing.
 use Rattle.show.specs.Show.{word, places}
-use mathlib.Core.Path.{_≡_}
-use mathlib.Core.List.{append-assoc}
-use native.Mathlib.Omega.{arith}
-use denote.Ref.{now}
-use Rattle.show.proofs.Wrote.{wrote-then, wrote-long, wrote-is, item-long}
+use Rattle.show.proofs.Wrote.{wrote-long}
 use borrow.Author.Needs.{needs}
 use Rattle.show.proofs.write_refusal_loop.Statement.{statement}
 use Rattle.show.proofs.write_refusal_loop.Tie as tie

@@ -3,8 +3,6 @@
 use mathlib.Core.List.{[], _∷_, _++_}
 use Rattle.text.specs.Text.{decimal}
 use Rattle.show.proofs.Wrote.{three-parts}
-use mathlib.Core.Path.{_≡_}
-use mathlib.Core.List.{append-assoc}
 use native.Mathlib.Omega.{arith}
 use denote.Ref.{now}
 use Rattle.show.proofs.Wrote.{wrote-then, wrote-long, wrote-is, item-long}

@@ -2,7 +2,7 @@
 -- Assumes nothing.
 use denote.Ref.{now}
 use native.Mathlib.Omega.{arith}
-use Rattle.show.proofs.Wrote.{wrote-then, wrote-long, wrote-is, decimal-20, item-long, lines-most}
+use Rattle.show.proofs.Wrote.{wrote-then, wrote-long, item-long}
 use borrow.Author.Needs.{needs}
 use Rattle.show.proofs.write_two.Statement.{statement}
 use Rattle.show.proofs.write_two.Tie as tie

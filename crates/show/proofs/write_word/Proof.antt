@@ -3,9 +3,8 @@
 use Prim.Native.Nat.{_+_, _-_, _≤_}
 use native.Mathlib.Omega.{arith}
 use lib.ListN.{length, take}
-use lib.Seq.{take-all}
 use Rattle.show.specs.Show.{Wrote}
-use Rattle.show.proofs.Wrote.{wrote-none, wrote-next, wrote-long, wrote-whole, wrote-all}
+use Rattle.show.proofs.Wrote.{wrote-next, wrote-long, wrote-whole, wrote-all}
 use borrow.Author.Needs.{needs}
 use Rattle.show.proofs.write_word.Statement.{statement}
 use Rattle.show.proofs.write_word.Tie as tie

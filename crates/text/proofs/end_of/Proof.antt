@@ -1,7 +1,6 @@
 -- `text::end_of` meets its contract: each way through its test is a case of `endOf`.
 -- Assumes nothing.
 use Rattle.text.proofs.Flat.{end-last, end-inner}
-use borrow.Author.Needs.{needs}
 use Rattle.text.proofs.end_of.Statement.{statement}
 use Rattle.text.proofs.end_of.Tie as tie
 

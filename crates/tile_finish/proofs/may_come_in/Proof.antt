@@ -1,8 +1,5 @@
 -- `tile_finish::may_come_in` meets its contract: a law for each way through it.
 -- Assumes nothing.
-use mathlib.Core.Path.{sym, _∙_}
-use native.Mathlib.Omega.{arith}
-use borrow.Author.Tests.{not-true, not-false}
 use Rattle.tile_finish.proofs.Coming.{too-much, on-land, off-land}
 use borrow.Author.Needs.{needs}
 use Rattle.tile_finish.proofs.may_come_in.Statement.{statement}

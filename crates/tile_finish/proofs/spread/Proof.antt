@@ -1,9 +1,9 @@
 -- `tile_finish::spread` meets its contract: each turn lays out one border cell's incoming.
 -- Assumes nothing.
-use mathlib.Core.Path.{_≡_, refl, sym, ap, _∙_}
+use mathlib.Core.Path.{_≡_, refl, ap}
 use native.Mathlib.Nat.{mul-le-mul}
 use native.Mathlib.Omega.{arith}
-use Prim.Native.Nat.{ℕ, _≤_, _<_, _-_, _*_}
+use Prim.Native.Nat.{ℕ, _≤_, _-_, _*_}
 use lib.ListN.{length, length-replicate}
 use Rattle.sheet.proofs.Spots.{spot-fits}
 use Rattle.tile.specs.Border.{borderCells}

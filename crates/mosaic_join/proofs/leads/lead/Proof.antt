@@ -6,7 +6,6 @@ use Prim.Native.Nat.{ℕ, _+_}
 use Rattle.mosaic_join.proofs.At.{inside-at}
 use Rattle.mosaic_join.proofs.Told.{borders-most}
 use Rattle.mosaic_join.proofs.Marks.{here-below, leads-most, lead-way, lead-absent, lead-ends}
-use borrow.Author.Needs.{needs}
 use Rattle.mosaic_join.proofs.leads.lead.Statement.{statement}
 use Rattle.mosaic_join.proofs.leads.lead.Tie as tie
 use Rattle.mosaic_join.proofs.leads.lead.Reads as reads

@@ -1,9 +1,8 @@
 -- `mosaic_join::leads::lead_tile` meets its contract: each turn writes where one border cell leads.
 -- Assumes nothing.
-use mathlib.Core.Path.{sym, ap, _∙_}
+use mathlib.Core.Path.{sym, _∙_}
 use native.Mathlib.Omega.{arith}
 use Prim.Native.Nat.{_+_, _≤_, _-_}
-use lib.ListN.{length}
 use Rattle.mosaic_join.specs.Joining.{borders}
 use Rattle.mosaic_join.specs.Method.{Filled, leadsBy}
 use Rattle.mosaic_join.proofs.At.{table-in, sides-at, record-at}

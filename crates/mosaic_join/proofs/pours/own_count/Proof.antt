@@ -4,7 +4,6 @@ use mathlib.Core.Path.{sym, _∙_}
 use native.Mathlib.Omega.{arith}
 use Rattle.mosaic_join.proofs.At.{inside-at}
 use Rattle.mosaic_join.proofs.Marks.{own-none, own-exit}
-use borrow.Author.Needs.{needs}
 use Rattle.mosaic_join.proofs.pours.own_count.Statement.{statement}
 use Rattle.mosaic_join.proofs.pours.own_count.Tie as tie
 use Rattle.mosaic_join.proofs.pours.own_count.Reads as reads

@@ -1,7 +1,7 @@
 -- `sheet::totals::seek_bad_code` meets its contract: no place passed has a bad code.
 -- Assumes nothing.
-use mathlib.Core.Bool.{false, true≢false}
-use mathlib.Core.Path.{_≡_, sym, ap, _∙_}
+use mathlib.Core.Bool.{true≢false}
+use mathlib.Core.Path.{sym, ap, _∙_}
 use native.Mathlib.Omega.{arith}
 use Prim.Native.Nat.{ℕ, _≤_, _<_, _-_}
 use borrow.Author.Count.{below-none, below-more}

@@ -16,7 +16,7 @@ use Rattle.flow.proofs.Walk.{steps-suc, inside-at}
 use Rattle.sheet.specs.Sheet.{destOf, unit, SheetNoLoop, FirstSheetLoop}
 use Rattle.sheet.proofs.Change.{changed-long, sheet-without}
 use Rattle.sheet.proofs.Dest.{dest-beyond}
-use Rattle.mend.specs.Method.{OnWay, Smaller}
+use Rattle.mend_moves.specs.Moves.{OnWay, Smaller}
 
 module _ (to : ℕ → ℕ) (start : ℕ) where
   pub way-begins : {p : ℕ} → p ≡ to start → OnWay to start start 0 p

@@ -23,7 +23,8 @@ use Rattle.sheet.proofs.Dest.{dest-beyond}
 use Rattle.sheet.proofs.Gather.{number-le}
 use Rattle.sheet.proofs.Given.{given-absent}
 use Rattle.sheet.proofs.Passes.{counts-no-loop}
-use Rattle.mend.specs.Method.{Owing, Settled}
+use Rattle.mend_moves.specs.Moves.{Owing}
+use Rattle.sheet.specs.Sheet.{CountsOf}
 
 -- taking a cell out closes no loop
 pub taken-free : (rows cols : ℕ) (g : List ℕ) (t : ℕ) → length g ≡ rows * cols → t < rows * cols → SheetNoLoop rows cols g → SheetNoLoop rows cols (set g t 255)
@@ -100,7 +101,7 @@ module _ (rows cols : ℕ) (g c : List ℕ) (t x : ℕ) (laid : Laid rows cols g
       (sheet-without rows cols (set g t x) t lt long) (rw (set-set g t x 255) counts)
 
   -- an absent cell is to hold nothing
-  pub put-absent : isArrow x ≡ false → Settled rows cols (set g t x) c
+  pub put-absent : isArrow x ≡ false → CountsOf rows cols (set g t x) c
   put-absent a =
       let absent : landAt (set g t x) t ≡ false = changed-land rows cols g t x lt (laid .grid-long) ∙ a in
       record {

@@ -1,13 +1,13 @@
--- `mend::method::put_in` meets its contract: an absent cell adds nothing, a land cell owes 1 and what its givers hold.
+-- `mend_moves::put_in` meets its contract: an absent cell adds nothing, a land cell owes 1 and what its givers hold.
 -- Assumes nothing.
 use mathlib.Core.Path.{refl, sym, _∙_}
 use native.Mathlib.Omega.{arith}
 use borrow.Author.Tests.{not-true, not-false}
 use Rattle.sheet.proofs.Places.{laid-area, place-of}
-use Rattle.mend.proofs.Moves.{put-absent, put-laid, put-land, put-owes, put-small}
+use Rattle.mend_moves.proofs.Moves.{put-absent, put-laid, put-land, put-owes, put-small}
 use borrow.Author.Needs.{needs}
-use Rattle.mend.proofs.method.put_in.Statement.{statement}
-use Rattle.mend.proofs.method.put_in.Tie as tie
+use Rattle.mend_moves.proofs.put_in.Statement.{statement}
+use Rattle.mend_moves.proofs.put_in.Tie as tie
 
 slice-write-grid : tie.Need-slice-write-grid
 slice-write-grid c = search needs

@@ -1,10 +1,10 @@
--- `mend::method::smaller` meets its contract.
+-- `mend_moves::smaller` meets its contract.
 -- Assumes nothing.
 use mathlib.Core.Logic.{inl, inr}
 use mathlib.Core.Path.{refl}
 use native.Mathlib.Omega.{arith}
-use Rattle.mend.proofs.method.smaller.Statement.{statement}
-use Rattle.mend.proofs.method.smaller.Tie as tie
+use Rattle.mend_moves.proofs.smaller.Statement.{statement}
+use Rattle.mend_moves.proofs.smaller.Tie as tie
 
 returns : tie.Need-returns
 returns c = record { under-a = omega arith; under-b = omega arith; one = inl refl }

@@ -15,7 +15,8 @@ use Rattle.sheet.specs.Sheet.{landAt, destOf, unit, countAt, SheetNoLoop}
 use Rattle.sheet.proofs.Dest.{dest-beyond}
 use Rattle.sheet.proofs.Gather.{number-le}
 use Rattle.sheet.proofs.Places.{laid-area}
-use Rattle.mend.specs.Method.{Owing, Settled}
+use Rattle.mend_moves.specs.Moves.{Owing}
+use Rattle.sheet.specs.Sheet.{CountsOf}
 
 module _ (rows cols : ℕ) (g c : List ℕ) (t more less : ℕ) (laid : Laid rows cols g c) (free : SheetNoLoop rows cols g) (s : Owing rows cols g c t more less)
     (small : less ≤ rows * cols) (lt : t < rows * cols) where
@@ -59,5 +60,5 @@ module _ (rows cols : ℕ) (g c : List ℕ) (t more less : ℕ) (laid : Laid row
       omega (arith, toGo-falls (rows * cols) (destOf rows cols g) (dest-beyond rows cols g (laid .grid-long)) free t lt, ap (toGo (rows * cols) (destOf rows cols g)) e)
 
 -- at the end of the way nothing is owed
-pub all-carried : (rows cols : ℕ) (g c : List ℕ) (t more less : ℕ) → Owing rows cols g c t more less → rows * cols ≤ t → Settled rows cols g c
+pub all-carried : (rows cols : ℕ) (g c : List ℕ) (t more less : ℕ) → Owing rows cols g c t more less → rows * cols ≤ t → CountsOf rows cols g c
 all-carried rows cols g c t more less s l = record { long = s .long; equation = s .even l }

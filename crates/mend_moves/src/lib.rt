@@ -4,7 +4,8 @@ ghost use Prim.Native.Nat.{_*_, _<_, _≤_};
 ghost use lib.ListN.{set};
 ghost use Rattle.sheet.specs.Leaves.{Laid};
 ghost use Rattle.sheet.specs.Sheet.{SheetCounts, SheetNoLoop};
-ghost use Rattle.mend.specs.Method.{Follows, Owing, Settled, Smaller};
+ghost use Rattle.mend_moves.specs.Moves.{Follows, Owing, Smaller};
+ghost use Rattle.sheet.specs.Sheet.{CountsOf};
 use around::givers_sum;
 use sheet::compass::is_arrow;
 use sheet::step::dest;
@@ -78,7 +79,7 @@ fn carry(
     requires { ⌜ SheetNoLoop rows cols (now grid) ⌝ }
     requires { ⌜ Owing rows cols (now grid) (now counts) start more less ⌝ }
     requires { ⌜ less ≤ rows * cols ⌝ }
-    ensures { λ _. ⌜ Settled rows cols (now (grid .entry)) (now (counts .exit)) ⌝ }
+    ensures { λ _. ⌜ CountsOf rows cols (now (grid .entry)) (now (counts .exit)) ⌝ }
 {
     let none = rows * cols;
     let mut p = start;
@@ -94,7 +95,7 @@ pub fn take_out(rows: usize, cols: usize, grid: &mut [u8], counts: &mut [u32], p
     requires { ⌜ place < rows * cols ⌝ }
     requires { ⌜ SheetCounts rows cols (now grid) (now counts) ⌝ }
     ensures { λ _. ⌜ now (grid .exit) ≡ set (now (grid .entry)) place 255 ⌝ }
-    ensures { λ _. ⌜ Settled rows cols (set (now (grid .entry)) place 255) (now (counts .exit)) ⌝ }
+    ensures { λ _. ⌜ CountsOf rows cols (set (now (grid .entry)) place 255) (now (counts .exit)) ⌝ }
 {
     let next = dest(rows, cols, grid, place);
     let held = counts[place];
@@ -110,7 +111,7 @@ pub fn put_in(rows: usize, cols: usize, grid: &mut [u8], counts: &mut [u32], pla
     requires { ⌜ SheetCounts rows cols (set (now grid) place 255) (now counts) ⌝ }
     requires { ⌜ SheetNoLoop rows cols (set (now grid) place code) ⌝ }
     ensures { λ _. ⌜ now (grid .exit) ≡ set (now (grid .entry)) place code ⌝ }
-    ensures { λ _. ⌜ Settled rows cols (set (now (grid .entry)) place code) (now (counts .exit)) ⌝ }
+    ensures { λ _. ⌜ CountsOf rows cols (set (now (grid .entry)) place code) (now (counts .exit)) ⌝ }
 {
     grid[place] = code;
     if !is_arrow(code) {

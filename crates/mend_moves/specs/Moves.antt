@@ -1,4 +1,4 @@
--- What the private functions of mending promise each other. Nothing here is cited by the public promise.
+-- What the moves of mending promise each other and the crate that calls them. Nothing here is cited by a public promise.
 -- Assumes nothing.
 use mathlib.Core.List.{List}
 use mathlib.Core.Logic.{_⊎_}
@@ -8,8 +8,8 @@ use lib.ListN.{length}
 use Rattle.flow.specs.Net.{steps}
 use Rattle.flow.proofs.Mend.{Off}
 use Rattle.sheet.specs.Sheet.{destOf, unit, countAt, SheetCounts, SheetNoLoop, FirstSheetLoop}
-use Rattle.mend.specs.declared.method.Followed.{Followed}
-use Rattle.mend.specs.declared.method.Followed.the-variants.{Out, Round}
+use Rattle.mend_moves.specs.declared.Followed.{Followed}
+use Rattle.mend_moves.specs.declared.Followed.the-variants.{Out, Round}
 
 pub record Smaller (a b r : ℕ) : Type 0 where
   pub under-a : r ≤ a
@@ -32,12 +32,7 @@ pub record OnWay (to : ℕ → ℕ) (start least further p : ℕ) : Type 0 where
 
 -- ---- the two moves
 
--- the counts are those of the grid
-pub record Settled (rows cols : ℕ) (grid counts : List ℕ) : Type 0 where
-  pub long : length counts ≡ rows * cols
-  pub equation : SheetCounts rows cols grid counts
-
--- half-way: the same but at cell t, where t is one, which holds `more` too little and `less` too much
+-- half-way: the counts are those of the grid but at cell t, where t is one, which holds `more` too little and `less` too much
 pub record Owing (rows cols : ℕ) (grid counts : List ℕ) (t more less : ℕ) : Type 0 where
   pub long : length counts ≡ rows * cols
   pub off : t < rows * cols → Off (rows * cols) (destOf rows cols grid) (unit grid) (countAt counts) t more less

@@ -1,15 +1,15 @@
--- `mend::method::carry` meets its contract: each turn sets one cell right, and the next one owes what it owed.
+-- `mend_moves::carry` meets its contract: each turn sets one cell right, and the next one owes what it owed.
 -- Assumes nothing.
 use native.Mathlib.Omega.{arith}
 use Prim.Native.Nat.{_*_}
 use Rattle.flow.proofs.Test.{toGo}
 use Rattle.sheet.specs.Sheet.{destOf}
 use Rattle.sheet.proofs.Places.{laid-area, laid-on, place-of}
-use Rattle.mend.specs.Method.{Owing}
-use Rattle.mend.proofs.Owes.{enough, fits, carried, carried-less, all-carried}
+use Rattle.mend_moves.specs.Moves.{Owing}
+use Rattle.mend_moves.proofs.Owes.{enough, fits, carried, carried-less, all-carried}
 use borrow.Author.Needs.{needs}
-use Rattle.mend.proofs.method.carry.Statement.{statement}
-use Rattle.mend.proofs.method.carry.Tie as tie
+use Rattle.mend_moves.proofs.carry.Statement.{statement}
+use Rattle.mend_moves.proofs.carry.Tie as tie
 
 abbrev Inv-loop : tie.InvT-loop
 Inv-loop rows cols grid counts₀ start more less none p₀ counts p = Owing rows cols grid counts p more less

@@ -1,9 +1,9 @@
--- `mend::method::take_out` meets its contract: what was downstream owes the count that is taken out.
+-- `mend_moves::take_out` meets its contract: what was downstream owes the count that is taken out.
 -- Assumes nothing.
-use Rattle.mend.proofs.Moves.{lent-free, taken-free, taken-laid, taken-owes, taken-small}
+use Rattle.mend_moves.proofs.Moves.{lent-free, taken-free, taken-laid, taken-owes, taken-small}
 use borrow.Author.Needs.{needs}
-use Rattle.mend.proofs.method.take_out.Statement.{statement}
-use Rattle.mend.proofs.method.take_out.Tie as tie
+use Rattle.mend_moves.proofs.take_out.Statement.{statement}
+use Rattle.mend_moves.proofs.take_out.Tie as tie
 
 dest-requires : tie.Need-dest-requires
 dest-requires c κs = search needs

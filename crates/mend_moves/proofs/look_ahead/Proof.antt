@@ -1,9 +1,9 @@
--- `mend::method::look_ahead` meets its contract: the old code is stored again.
+-- `mend_moves::look_ahead` meets its contract: the old code is stored again.
 -- Assumes nothing.
-use Rattle.mend.proofs.Moves.{ahead-laid, ahead-free, as-lent}
+use Rattle.mend_moves.proofs.Moves.{ahead-laid, ahead-free, as-lent}
 use borrow.Author.Needs.{needs}
-use Rattle.mend.proofs.method.look_ahead.Statement.{statement}
-use Rattle.mend.proofs.method.look_ahead.Tie as tie
+use Rattle.mend_moves.proofs.look_ahead.Statement.{statement}
+use Rattle.mend_moves.proofs.look_ahead.Tie as tie
 
 slice-read-old : tie.Need-slice-read-old
 slice-read-old c = search needs

@@ -1,14 +1,14 @@
--- `mend::method::follow` meets its contract: the water comes back, or it leaves.
+-- `mend_moves::follow` meets its contract: the water comes back, or it leaves.
 -- Assumes nothing.
 use native.Mathlib.Omega.{arith}
 use Prim.Native.Nat.{_*_, _-_}
 use Rattle.sheet.specs.Sheet.{destOf}
 use Rattle.sheet.proofs.Places.{laid-area, place-of}
-use Rattle.mend.specs.Method.{OnWay}
-use Rattle.mend.proofs.Following.{way-begins, way-on, way-short, way-back, way-out}
+use Rattle.mend_moves.specs.Moves.{OnWay}
+use Rattle.mend_moves.proofs.Following.{way-begins, way-on, way-short, way-back, way-out}
 use borrow.Author.Needs.{needs}
-use Rattle.mend.proofs.method.follow.Statement.{statement}
-use Rattle.mend.proofs.method.follow.Tie as tie
+use Rattle.mend_moves.proofs.follow.Statement.{statement}
+use Rattle.mend_moves.proofs.follow.Tie as tie
 
 abbrev Inv-loop : tie.InvT-loop
 Inv-loop rows cols grid start none least₀ further₀ p₀ least further p = OnWay (destOf rows cols grid) start least further p

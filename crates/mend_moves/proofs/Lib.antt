@@ -1,0 +1,3 @@
+pub mod Owes
+pub mod Following
+pub mod Moves
