@@ -5,37 +5,26 @@
 
 mod common;
 
+use common::calls::{count_sheet, finish_tile, join_records, write_record};
 use common::cuts::{any_cut, every_cut, Cut};
 use common::draw::Draw;
 use common::group::{long_run, many, whole_tally, Group, Tally};
 use common::hand::{self, Joined};
 use common::independent;
+use common::kinds::any_good_sheet;
 use common::mosaic::{self, Lengths};
 use common::notation;
 use common::sheets::{
-    self, any_loop_free, any_shape, close_a_loop, every_grid, lay_a_ring, one_river, one_round,
-    opened, Absent, Rectangle, Relief, Sheet, GOOD_CODES,
+    self, any_shape, close_a_loop, every_grid, one_river, one_round, Absent, Relief, Sheet,
+    GOOD_CODES,
 };
 use common::tile::{self, border_places, record_lengths};
-use drainage::{
-    count, finish, finish_work, join, join_work, record, record_len, record_work, CountReply,
-    FinishReply, JoinReply, RecordReply,
-};
+use drainage::{CountReply, FinishReply, JoinReply, RecordReply};
 
 /// The record of a tile, unless it is refused for a loop.
 fn recorded(sheet: &Sheet, position: (usize, usize)) -> Result<Option<Vec<u8>>, String> {
     let (rows, cols) = (sheet.rows, sheet.cols);
-    let mut bytes = vec![0xA5; record_len(rows, cols)];
-    let [mut work1, mut work2] = record_work(rows, cols).map(|length| vec![7; length]);
-    let reply = record(
-        rows,
-        cols,
-        position.0,
-        position.1,
-        &sheet.grid,
-        &mut bytes,
-        [&mut work1, &mut work2],
-    );
+    let (reply, bytes) = write_record(sheet, position);
     let lengths = record_lengths(rows, cols);
     let expected = tile::record((rows, cols), position, &sheet.grid, lengths);
     match (reply, expected.number) {
@@ -50,12 +39,9 @@ fn recorded(sheet: &Sheet, position: (usize, usize)) -> Result<Option<Vec<u8>>, 
 /// What comes in at all border cells, unless joining is refused for a loop.
 fn joined(cut: &Cut, records: &[u8]) -> Result<Option<Vec<u32>>, String> {
     let (tile_rows, tile_cols) = cut.tile_counts();
-    let cells = cut.border_cells();
-    let mut incoming = vec![0xA5; cells];
-    let mut work = join_work(cells).map(|length| vec![7; length]);
-    let work = work.each_mut().map(|work| &mut work[..]);
-    let reply = join(tile_rows, tile_cols, records, &mut incoming, work);
-    let expected = mosaic::join(tile_rows, tile_cols, records, Lengths::of(cells));
+    let (reply, incoming) = join_records(cut, records);
+    let lengths = Lengths::of(cut.border_cells());
+    let expected = mosaic::join(tile_rows, tile_cols, records, lengths);
     match (reply, expected.number) {
         (JoinReply::Done, 0) if incoming == expected.written.given(&[]) => Ok(Some(incoming)),
         (
@@ -73,9 +59,7 @@ fn joined(cut: &Cut, records: &[u8]) -> Result<Option<Vec<u32>>, String> {
 /// The finished counts of a tile that has no loop.
 fn finished(sheet: &Sheet, incoming: &[u32]) -> Result<Vec<u32>, String> {
     let (rows, cols) = (sheet.rows, sheet.cols);
-    let mut counts = vec![0xA5; sheet.grid.len()];
-    let mut work = vec![7; finish_work(rows, cols)];
-    let reply = finish(rows, cols, &sheet.grid, incoming, &mut counts, &mut work);
+    let (reply, counts) = finish_tile(sheet, incoming);
     let expected = tile::finish((rows, cols), &sheet.grid, incoming, [counts.len(); 2]);
     if reply == FinishReply::Done && counts == expected.written.given(&[]) {
         Ok(counts)
@@ -121,8 +105,7 @@ fn through_tiles(grid: &[u8], cut: &Cut) -> Result<(End, Vec<u32>), String> {
 fn counted_whole(sheet: &Sheet) -> Result<Option<Vec<u32>>, String> {
     let (rows, cols) = (sheet.rows, sheet.cols);
     let whole = independent::count(rows, cols, &sheet.grid, sheet.grid.len());
-    let mut counts = vec![1; sheet.grid.len()];
-    let reply = count(rows, cols, &sheet.grid, &mut counts);
+    let (reply, counts) = count_sheet(sheet);
     if counts != whole.counts.given(&[]) {
         return Err("the sheet counted whole has other counts".to_string());
     }
@@ -222,43 +205,6 @@ fn run_every_small_sheet(tally: &mut Tally) -> Result<(), String> {
         })?;
     }
     Ok(())
-}
-
-/// A sheet of any kind whose codes are good: without loops for the greater part, else with any arrows, with a river
-/// turned back onto itself, or with a ring.
-fn any_good_sheet(draw: &mut Draw, rows: usize, cols: usize) -> Sheet {
-    let arrow_sets: [&[u8]; 4] = [
-        &[1, 2, 4, 8, 16, 32, 64, 128],
-        &[1, 4, 16, 64],
-        &[2, 8, 32, 128],
-        &[1, 1, 1, 1, 2, 4, 8, 64, 128, 16],
-    ];
-    match draw.below(6) {
-        0 => {
-            let absent = draw.pick(&[Absent(0), Absent(3), Absent(6)]);
-            let arrows = draw.pick(&arrow_sets);
-            sheets::arbitrary(draw, rows, cols, absent, arrows)
-        }
-        1 => {
-            let mut sheet = any_loop_free(draw, rows, cols);
-            close_a_loop(draw, &mut sheet);
-            sheet
-        }
-        2 if rows >= 2 && cols >= 2 => {
-            let mut sheet = any_loop_free(draw, rows, cols);
-            let (height, width) = (draw.within(2, rows), draw.within(2, cols));
-            let ring = Rectangle {
-                top: draw.within(0, rows - height),
-                left: draw.within(0, cols - width),
-                height,
-                width,
-            };
-            lay_a_ring(&mut sheet, ring, draw.one_in(2));
-            sheet
-        }
-        3 => opened(draw, rows, cols),
-        _ => any_loop_free(draw, rows, cols),
-    }
 }
 
 /// Sheets of up to four by four cells, and some longer ones, cut in every way.
