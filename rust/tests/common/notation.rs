@@ -10,6 +10,11 @@ pub fn write<T: Display>(cols: usize, cells: &[T]) -> String {
     if cells.len() > LEGIBLE {
         return format!("({} cells, too many to write out)", cells.len());
     }
+    write_whole(cols, cells)
+}
+
+/// However many cells there are.
+pub fn write_whole<T: Display>(cols: usize, cells: &[T]) -> String {
     let row = |cells: &[T]| {
         let numbers: Vec<String> = cells.iter().map(T::to_string).collect();
         numbers.join(" ")
