@@ -2,8 +2,8 @@
 //! counter: counted whole and checked; cut into tiles, recorded, joined and finished; and changed cell by cell, each
 //! change mended and counted afresh.
 //!
-//! It goes on until so many cells have gone through the operations, twenty times as many with DRAINAGE_LONG=1; the seeds
-//! are fixed. A difference is told on the smallest part of its sheet that still shows it.
+//! It goes on until so many cells have gone through the operations, twenty times as many with DRAINAGE_LONG=1. Seeds are
+//! fixed. A difference is told on the smallest part of its sheet that was found to show it.
 
 mod common;
 
@@ -218,8 +218,8 @@ fn round(sheet: &Sheet, cut: &Cut, start: Option<&usize>) -> Option<(u64, u64)> 
     None
 }
 
-/// Takes the sheet through the three steps in tiles: refused for a loop exactly where the whole is, and else each tile's
-/// counts are those of the whole.
+/// Takes the sheet through the three steps in tiles: refused for a loop exactly where the whole is, and else each
+/// tile's counts are those of the whole.
 fn hold_tiles(
     figures: &mut Figures,
     sheet: &Sheet,
