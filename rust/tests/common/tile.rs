@@ -3,7 +3,7 @@
 
 use super::independent::{self, meaning, neighbour, values, waters, After, Meaning, Water};
 
-/// Paper 01, "Numbers that bound the work".
+/// Paper 01, "Replies and what remains".
 pub const GREATEST_INCOMING: u32 = 4_194_304;
 
 /// The places of a tile's border cells, in order: the number of a border cell is where it stands here.
