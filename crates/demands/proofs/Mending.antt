@@ -9,6 +9,7 @@ use lib.ListN.{length}
 use lib.Seq.{getD-set-other}
 use Rattle.flow.proofs.Alike.{alike-sym}
 use Rattle.flow.proofs.Close.{loops-through}
+use Rattle.promise.specs.Reply.{numberOf}
 use Rattle.sheet.specs.Sheet.{codeAt, countAt, destOf, Downstream, SheetOnLoop, SheetNoLoop}
 use Rattle.sheet.proofs.Change.{changed-alike, changed-long}
 use Rattle.sheet.proofs.Dest.{dest-beyond}
@@ -20,8 +21,7 @@ use Rattle.checking.specs.Check.{Right}
 use Rattle.mend.specs.Mend.{MendPromise, MendOutcome, Mendable, changed}
 use Rattle.mend.proofs.Demands as M
 use Rattle.demands.specs.Said.{Done, RefusedForLoop}
-use Rattle.demands.specs.Sheets.{Permitted, ArrowsFormLoop}
-use Rattle.demands.proofs.Counting.{otherwise-done, counts-as-published}
+use Rattle.demands.specs.Sheets.{ArrowsFormLoop}
 
 module _ (rows cols : ℕ) (grid counts : List ℕ) (place code : ℕ) (e : MendOutcome) (kept : MendPromise rows cols grid counts place code e) where
   module _ (done : Done (e .said)) where
@@ -36,9 +36,9 @@ module _ (rows cols : ℕ) (grid counts : List ℕ) (place code : ℕ) (e : Mend
     pub as-counted-afresh : (fresh : List ℕ) → length fresh ≡ rows * cols → (f : CountOutcome) → CountPromise rows cols (e .grid) fresh f → Done (f .said) × (e .counts ≡ f .counts)
     as-counted-afresh fresh long f counted =
         let r = right-after in
-        let s : Permitted rows cols (e .grid) fresh = record { shape = r .shape; lengths = record { grid-long = r .lengths .grid-long; counts-long = long }; codes = r .codes } in
-        let d = otherwise-done rows cols (e .grid) fresh s f counted (counts-no-loop rows cols (e .grid) (r .lengths .grid-long) (e .counts) (r .equation)) in
-        (d, counts-one rows cols (e .grid) (e .counts) (f .counts) (r .lengths .grid-long) (r .lengths .counts-long) (C.done-if-free rows cols (e .grid) fresh (s .shape) (s .lengths) (s .codes) f counted (counts-no-loop rows cols (e .grid) (r .lengths .grid-long) (e .counts) (r .equation)) .long) (r .equation) (counts-as-published rows cols (e .grid) fresh s f counted d))
+        let free = counts-no-loop rows cols (e .grid) (r .lengths .grid-long) (e .counts) (r .equation) in
+        let d = C.done-if-free rows cols (e .grid) fresh (r .shape) (record { grid-long = r .lengths .grid-long; counts-long = long }) (r .codes) f counted free in
+        (ap numberOf (d .said-is), counts-one rows cols (e .grid) (e .counts) (f .counts) (r .lengths .grid-long) (r .lengths .counts-long) (d .long) (r .equation) (d .equation))
 
     -- NO CODE DIFFERS except at that cell
     pub no-other-code : (p : ℕ) → (p ≡ place → ⊥) → codeAt (e .grid) p ≡ codeAt grid p

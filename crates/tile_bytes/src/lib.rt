@@ -1,4 +1,4 @@
-// Writing numbers into a record, byte by byte. Each function answers the next place.
+// The bytes of a border record: numbers and fields, written byte by byte. Each function answers the next place.
 ghost use mathlib.Core.List.{[], _∷_};
 ghost use mathlib.Core.Path.{_≡_};
 ghost use Prim.Native.Nat.{_+_, _*_, _<_, _≤_};
