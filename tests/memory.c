@@ -1,6 +1,7 @@
 /* Calls every function of include/drainage.h with each lent buffer a heap block of exactly its length, so that a tool
  * that watches the heap sees every byte read or written beyond it; tests/memory runs this under valgrind. All replies
- * and all buffers are compared with what the plain counter says. The sheets are drawn from a fixed seed. */
+ * and all buffers are compared with what the plain counter says, but for records with a changed byte, of which less is
+ * known here (judge_changed). The sheets are drawn from a fixed seed. */
 #include "drainage.h"
 #include "plain.h"
 #include <inttypes.h>

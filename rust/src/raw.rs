@@ -1,6 +1,6 @@
 //! The C interface as it is, `include/drainage.h` written in Rust, for the safe functions beside it and for the tests.
 
-/// What every function of the library returns: the paper's reply number, and the reply's values in the order of the
+/// What every operation of the library returns: the paper's reply number, and the reply's values in the order of the
 /// paper's table, 0 where there is none.
 #[repr(C)]
 #[derive(Debug, Clone, Copy, PartialEq, Eq)]

@@ -1,4 +1,4 @@
-// The look-around at a cell: whether all its givers have counts, and what these come to.
+// The look-around at a cell: whether all its givers have counts, what these come to, and how many givers there are.
 ghost use mathlib.Core.Bool.{true};
 ghost use mathlib.Core.Path.{_≡_};
 ghost use Prim.Native.Nat.{_+_, _*_, _<_, _≤_};

@@ -1,5 +1,5 @@
 // The count program: reads a sheet as text from standard input, and writes its counts or why it is refused.
-// No proper text has more than 20,486 bytes, and the first 20,487 decide the answer. Text, grid, counts and answer take 61,647 bytes.
+// No proper text of sides within 1 to 64 has more than 20,486 bytes, and the first 20,487 decide the answer. Text, grid, counts and answer take 61,647 bytes.
 fn main() {
     let mut text = [0u8; 20487];
     let mut grid = [0u8; 4096];

@@ -1,5 +1,5 @@
 -- DEMAND 1: every operation takes every grid, size, list and record, and what does not fit is refused by number, with fixed values and fixed buffer
--- contents. No operation asks anything of its caller, and each promise speaks of all inputs; here it is said that each admits one outcome only: one
+-- contents. No operation asks anything of its caller (but the program's `answer`, for room), and each promise speaks of all inputs; here it is said that each admits one outcome only: one
 -- reply, number and values, and one content of every lent buffer.
 -- Assumes nothing.
 use mathlib.Core.List.{List}

@@ -42,8 +42,8 @@ pub counting-remains : (rows cols : ℕ) (grid counts : List ℕ) (e : CountOutc
     → Remains (e .said) counts (zeros (rows * cols)) (SheetCounts rows cols grid) (e .counts)
 counting-remains rows cols grid counts e =
     let P : CountOutcome → Type 0 = λ e. Remains (e .said) counts (zeros (rows * cols)) (SheetCounts rows cols grid) (e .counts) in
-    unless-each P (lent-else refl) (unless-each P (lent-else refl)
-    (unless-all-each P (λ p. lent-else refl) (unless-some-each P (λ v. for-four) (λ d. at-done (d .said-is) (d .equation)))))
+    unless-each P (λ n. lent-else refl) (λ a. unless-each P (λ n. lent-else refl) (λ b. unless-all-each P (λ p f. lent-else refl) (λ k.
+    unless-some-each P (λ v l. for-four) (λ n d. at-done (d .said-is) (d .equation)))))
 
 -- mending: grid and counts
 pub mending-remains : (rows cols : ℕ) (grid counts : List ℕ) (place code : ℕ) (e : MendOutcome) → MendPromise rows cols grid counts place code e
@@ -60,9 +60,8 @@ module _ (rows cols tileRow tileCol : ℕ) (grid bytes work1 work2 : List ℕ) w
   pub recording-remains : (e : RecordOutcome) → RecordPromise rows cols tileRow tileCol grid bytes work1 work2 e → RecordRemains e
   recording-remains e =
       let P = RecordRemains in
-      unless-each P (lent-else refl) (unless-each P (lent-else refl)
-      (unless-each P (lent-else refl) (unless-all-each P (λ p. lent-else refl)
-      (unless-some-each P (λ v. for-four) (λ d. at-done (d .said-is) (d .work1-clear, d .work2-clear))))))
+      unless-each P (λ n. lent-else refl) (λ a. unless-each P (λ n. lent-else refl) (λ b. unless-each P (λ n. lent-else refl) (λ c.
+      unless-all-each P (λ p f. lent-else refl) (λ k. unless-some-each P (λ v l. for-four) (λ n d. at-done (d .said-is) (d .work1-clear, d .work2-clear))))))
 
 -- finishing: the counts and a work buffer; incoming is only read
 module _ (rows cols : ℕ) (grid incoming counts work : List ℕ) where
@@ -74,9 +73,8 @@ module _ (rows cols : ℕ) (grid incoming counts work : List ℕ) where
   pub finishing-remains : (e : FinishOutcome) → FinishPromise rows cols grid incoming counts work e → FinishRemains e
   finishing-remains e =
       let P = FinishRemains in
-      unless-each P (lent-else refl) (unless-each P (lent-else refl)
-      (unless-all-each P (λ p. lent-else refl) (unless-all-each P (λ b. lent-else refl)
-      (unless-some-each P (λ v. for-four) (λ d. at-done (d .said-is) (d .work-clear))))))
+      unless-each P (λ n. lent-else refl) (λ a. unless-each P (λ n. lent-else refl) (λ b. unless-all-each P (λ p f. lent-else refl) (λ k.
+      unless-all-each P (λ p f. lent-else refl) (λ l. unless-some-each P (λ v w. for-four) (λ n d. at-done (d .said-is) (d .work-clear))))))
 
 -- joining: incoming and five work buffers
 module _ (I J : ℕ) (bytes incoming : List ℕ) (work : Work) where
@@ -94,6 +92,5 @@ module _ (I J : ℕ) (bytes incoming : List ℕ) (work : Work) where
   pub joining-remains : (e : JoinOutcome) → JoinPromise I J bytes incoming work e → JoinRemains e
   joining-remains e =
       let P = JoinRemains in
-      unless-each P (lent-else refl) (unless-all-each P (λ m. fault-lent (m / 4) (m % 4))
-      (unless-each P (lent-else refl) (unless-each P (lent-else refl)
-      (unless-some-each P (λ v. for-four) (λ d. at-done (d .said-is) (d .work-clear))))))
+      unless-each P (λ n. lent-else refl) (λ a. unless-all-each P (λ m f. fault-lent (m / 4) (m % 4)) (λ k. unless-each P (λ n. lent-else refl) (λ b.
+      unless-each P (λ n. lent-else refl) (λ c. unless-some-each P (λ v l. for-four) (λ n d. at-done (d .said-is) (d .work-clear))))))

@@ -1,4 +1,4 @@
--- Two nets that differ at one cell t: the counts are the same at each cell that is neither t nor downstream of t.
+-- Two nets that differ at most at cell t and in the arrows onto it: the counts are the same at each cell that is neither t nor downstream of t in either net.
 -- Assumes nothing.
 use mathlib.Core.Path.{_≡_, refl, sym, ap, _∙_}
 use mathlib.Core.Bool.{false, true≢false}

@@ -1,4 +1,4 @@
--- A promise taken apart, for a caller: an outcome that is not a link's refusal has passed that link; and one that is told which link it is at.
+-- A promise taken apart, for a caller: an outcome that is not a link's refusal has passed that link; and where a link's test is met, the outcome is as what follows says.
 -- Assumes nothing.
 use Prim.Native.Nat.{ℕ, _<_}
 use mathlib.Core.Path.{_≡_}

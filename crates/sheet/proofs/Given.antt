@@ -1,4 +1,4 @@
--- What a cell is given.
+-- An absent cell is given nothing.
 -- Assumes nothing.
 use mathlib.Core.Bool.{false, true≢false}
 use mathlib.Core.List.{List}

@@ -25,7 +25,7 @@ fn bad_number(grid: &[u8]) -> usize
     n
 }
 
-// The first place with a bad code, sought where it is known that there is one, or from the start.
+// The first place with a bad code, sought from the start.
 fn seek_bad_code(grid: &[u8]) -> Found
     ensures { λ r. ⌜ Finds (length (now (grid .entry))) (CodeOk (now (grid .entry))) r ⌝ }
 {

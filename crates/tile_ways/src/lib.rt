@@ -1,5 +1,5 @@
 // The ways of a tile's border cells. `known` holds one more than the place of the last cell of a cell's path, or 0 where that is not known
-// yet, so that each cell's path is walked once.
+// yet, so that no cell's last cell is sought again once it is known.
 ghost use mathlib.Core.Bool.{true};
 ghost use mathlib.Core.Path.{_≡_};
 ghost use Prim.Native.Nat.{_+_, _*_, _<_, _≤_};

@@ -1,5 +1,5 @@
--- Joining the records of a cut sheet, all of them written: refused for a loop exactly where the sheet has one, and otherwise what comes in at each border
--- cell is what the whole sheet's counts bring there.
+-- Joining the records of a cut sheet, all of them written: refused for a loop of the sheet, or done with no exits that feed each other round; and what the
+-- records tell is the sheet's own mosaic, cut and tiles.
 -- Assumes nothing.
 use mathlib.Core.List.{List}
 use mathlib.Core.Logic.{_⊎_, inl, inr}

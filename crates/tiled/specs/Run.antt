@@ -57,11 +57,16 @@ module _ (I J : ℕ) (hs ws : ℕ → ℕ) (sheet : List ℕ) (tiles : ℕ → L
     pub finished : ℕ → FinishOutcome
     pub outcome : (t : ℕ) → t < I * J → FinishPromise (heightOf J hs t) (widthOf J ws t) (tiles t) (incoming t) (counts t) (work t) (finished t)
 
-  -- some step refuses for a loop: a record, or, where all records are written, the join
-  abbrev pub SomeStepRefuses : (w : Writing) → Joining w → Type 0
-  SomeStepRefuses w j =
+  -- all records are written
+  abbrev pub AllWritten : Writing → Type 0
+  AllWritten w = (t : ℕ) → t < I * J → numberOf (w .written t .said) ≡ 0
+
+  -- some step refuses for a loop: a record; or the join, which is made where all records are written; or finishing a tile, which is done where the join is
+  abbrev pub SomeStepRefuses : (w : Writing) (j : AllWritten w → Joining w) (f : (all : AllWritten w) → numberOf (j all .joined .said) ≡ 0 → Finishing w (j all)) → Type 0
+  SomeStepRefuses w j f =
       ((t : ℕ) × (t < I * J) × (numberOf (w .written t .said) ≡ 4))
-      ⊎ (((t : ℕ) → t < I * J → numberOf (w .written t .said) ≡ 0) × (numberOf (j .joined .said) ≡ 4))
+      ⊎ (((all : AllWritten w) × (numberOf (j all .joined .said) ≡ 4))
+      ⊎ ((all : AllWritten w) × (d : numberOf (j all .joined .said) ≡ 0) × (t : ℕ) × (t < I * J) × (numberOf (f all d .finished t .said) ≡ 4)))
 
   -- the sheet has a loop
   abbrev pub SheetHasLoop : Type 0

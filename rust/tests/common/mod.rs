@@ -1,4 +1,4 @@
-//! What the tests of the operations, and the benchmarks, share.
+//! What the tests and the benchmarks share.
 
 // Every test program has this module for itself and uses a part of it.
 #![allow(dead_code)]

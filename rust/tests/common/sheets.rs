@@ -1,4 +1,5 @@
-//! Sheets to count, drawn at random: arbitrary ones, ones without loops, and ones with long loops.
+//! Sheets and tiles for the tests: drawn ones with loops and without, made ones such as one long river, and sides and
+//! lengths at and beyond the bounds.
 
 use super::draw::Draw;
 

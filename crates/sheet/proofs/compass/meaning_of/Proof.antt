@@ -1,5 +1,5 @@
 -- `sheet::compass::meaning_of` meets its contract: THE CHECK of the constant table against the printed one. At each code written out the
--- definition computes to the line of the code's table; every other number is bad.
+-- definition computes to the line of `STEPS`, or to absent; every other number is bad.
 -- Assumes nothing.
 use mathlib.Core.Path.{_≡_, sym}
 use Rattle.sheet.specs.Compass.{stepAt, stepOf, lineOf, isArrow, isAbsent, meaningOf}
