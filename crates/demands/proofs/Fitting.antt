@@ -3,8 +3,8 @@
 -- Assumes nothing.
 use mathlib.Core.List.{List}
 use mathlib.Core.Logic.{_↔_}
-use mathlib.Core.Path.{_≡_, refl, ap}
-use Prim.Native.Nat.{ℕ, _*_, _/_, _%_}
+use mathlib.Core.Path.{refl, ap}
+use Prim.Native.Nat.{ℕ, _/_, _%_}
 use Rattle.flow.specs.Net.{NoLoop}
 use Rattle.flow.proofs.Loop.{first-loop-free}
 use Rattle.promise.specs.Reply.{numberOf}
@@ -13,9 +13,8 @@ use Rattle.promise.proofs.Each.{unless-each, unless-all-each, unless-some-each}
 use Rattle.sheet.specs.Sheet.{SheetNoLoop}
 use Rattle.sheet.proofs.Passes.{counts-no-loop}
 use Rattle.count.specs.Count.{CountPromise, CountOutcome}
-use Rattle.mosaic_join.specs.Joining.{JoinPromise, JoinOutcome, Work, borders, feedsBy, ends}
+use Rattle.mosaic_join.specs.Joining.{JoinPromise, JoinOutcome, Work, borders, feedsBy}
 use Rattle.mosaic_join.proofs.One.{exits-free}
-use Rattle.mosaic_read.specs.Read.{faultAt}
 use Rattle.tile_finish.specs.Finish.{FinishPromise, FinishOutcome}
 use Rattle.tile_finish.proofs.One.{finished-no-loop}
 use Rattle.tile_record.specs.Record.{RecordPromise, RecordOutcome}

@@ -6,7 +6,7 @@ use mathlib.Core.List.{List, [], _∷_}
 use mathlib.Core.Logic.{_↔_}
 use mathlib.Core.Path.{_≡_, refl}
 use Prim.Native.Nat.{ℕ, _/_, _%_}
-use Rattle.promise.specs.Reply.{Reply, numberOf}
+use Rattle.promise.specs.Reply.{Reply}
 use Rattle.promise.specs.Reply.Reply.{reply}
 use Rattle.promise.proofs.Apart.{unless-ok, unless-all-ok}
 use Rattle.promise.proofs.Each.{unless-each, unless-all-each, unless-some-each}
