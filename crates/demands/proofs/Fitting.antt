@@ -13,7 +13,8 @@ use Rattle.promise.proofs.Each.{unless-each, unless-all-each, unless-some-each}
 use Rattle.sheet.specs.Sheet.{SheetNoLoop}
 use Rattle.sheet.proofs.Passes.{counts-no-loop}
 use Rattle.count.specs.Count.{CountPromise, CountOutcome}
-use Rattle.mosaic_join.specs.Joining.{JoinPromise, JoinOutcome, Work, borders, feedsBy}
+use Rattle.mosaic_join.specs.Joining.{JoinPromise, JoinOutcome, Work}
+use Rattle.mosaic_read.specs.Said.{borders, feedsBy}
 use Rattle.mosaic_join.proofs.One.{exits-free}
 use Rattle.tile_finish.specs.Finish.{FinishPromise, FinishOutcome}
 use Rattle.tile_finish.proofs.One.{finished-no-loop}

@@ -13,7 +13,8 @@ use Rattle.promise.proofs.Each.{unless-each, unless-all-each, unless-some-each}
 use Rattle.count.specs.Count.{CountPromise, CountOutcome}
 use Rattle.mend.specs.Mend.{MendPromise, MendOutcome}
 use Rattle.mend.proofs.Demands.{refused-as-lent}
-use Rattle.mosaic_join.specs.Joining.{JoinPromise, JoinOutcome, Work, borders, cleared, ends}
+use Rattle.mosaic_join.specs.Joining.{JoinPromise, JoinOutcome, Work, cleared, ends}
+use Rattle.mosaic_read.specs.Said.{borders}
 use Rattle.mosaic_read.specs.Read.{faultAt}
 use Rattle.sheet.specs.Sheet.{SheetCounts}
 use Rattle.tile_finish.specs.Finish.{FinishPromise, FinishOutcome}

@@ -5,7 +5,8 @@ use mathlib.Core.Path.{_≡_}
 use Prim.Native.Nat.{ℕ, _*_, _/_, _%_, _<_}
 use lib.ListN.{length}
 use Rattle.flow.specs.Net.{OnLoop}
-use Rattle.mosaic_join.specs.Joining.{JoinLengths, Work, borders, feedsBy}
+use Rattle.mosaic_join.specs.Joining.{JoinLengths, Work}
+use Rattle.mosaic_read.specs.Said.{borders, feedsBy}
 use Rattle.mosaic_read.specs.Read.{MosaicShape}
 use Rattle.mosaic_read.specs.Records.{PartOk, startOf}
 use Rattle.sheet.specs.Shape.{SheetShape, TileShape}

@@ -17,15 +17,16 @@ use Rattle.sheet.specs.Sheet.{countAt}
 use Rattle.listed_net.specs.Net.{toAt, NetLent, NetCounts}
 use Rattle.listed_net.proofs.Listed.{toAt-read}
 use Rattle.mosaic_read.specs.Records.{heights, widths}
-use Rattle.mosaic_read.specs.Said.{recordOf, numberIn, saidCount, saidWay, saidCode}
+use Rattle.mosaic_read.specs.Said.{borders, feedsBy, recordOf, numberIn, saidCount, saidWay, saidCode}
 use Rattle.mosaic_step.specs.Table.{WellFormed}
 use Rattle.promise.specs.Links.UnlessSome.{refused-with, met-none}
 use Rattle.promise.specs.Reply.{Reply}
 use Rattle.promise.specs.Reply.Reply.{reply}
-use Rattle.mosaic_join.specs.Joining.{Work, works, ends, borders, feedsBy, TotalsBy, cleared, JoinExits}
-use Rattle.mosaic_join.specs.Method.{Filled, poursBy, ownBy, GatherLent, Gathered}
-use Rattle.mosaic_join.proofs.Poured.{feeds-beyond, comes-given, comes-most}
-use Rattle.mosaic_join.proofs.Told.{borders-most, own-fits}
+use Rattle.mosaic_join.specs.Joining.{Work, works, ends, TotalsBy, cleared, JoinExits}
+use Rattle.mosaic_net.specs.Method.{Filled, poursBy, ownBy}
+use Rattle.mosaic_join.specs.Method.{GatherLent, Gathered}
+use Rattle.mosaic_net.proofs.Poured.{feeds-beyond, comes-given, comes-most}
+use Rattle.mosaic_net.proofs.Told.{borders-most, own-fits}
 
 -- arrows that agree give the same
 given-arrows : (n : ℕ) (to on-to c : ℕ → ℕ) (h : ℕ) → ((q : ℕ) → q < n → to q ≡ on-to q) → given n to c h ≡ given n on-to c h

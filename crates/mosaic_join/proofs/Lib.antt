@@ -1,10 +1,4 @@
-pub mod Filled
 pub mod Sums
-pub mod Told
-pub mod Poured
-pub mod Marks
-pub mod At
-pub mod Fed
 pub mod Answers
 pub mod TileFound
 pub mod Refuse

@@ -15,14 +15,14 @@ use Rattle.flow.proofs.Sum.{sum-ext}
 use Rattle.mosaic.specs.Join.{comesIn, exitAt, onto, isLand}
 use Rattle.mosaic.proofs.Totals.{feeds-out}
 use Rattle.mosaic_read.specs.Records.{heights, widths}
-use Rattle.mosaic_read.specs.Said.{saidWay, saidCode}
+use Rattle.mosaic_read.specs.Said.{borders, feedsBy, saidWay, saidCode}
 use Rattle.promise.specs.Links.{AtMostOne, UnlessSome}
 use Rattle.promise.specs.Links.UnlessSome.{refused-with, met-none}
 use Rattle.promise.specs.Reply.{Reply}
 use Rattle.promise.specs.Reply.Reply.{reply}
 use Rattle.promise.proofs.One.{unless-one, unless-all-one, one-value}
 use Rattle.sheet.specs.Sheet.{LoopFound}
-use Rattle.mosaic_join.specs.Joining.{Work, ends, borders, feedsBy, incomingBy, ExitLoop, Joined, JoinExits, JoinPromise, joinReply}
+use Rattle.mosaic_join.specs.Joining.{Work, ends, incomingBy, ExitLoop, Joined, JoinExits, JoinPromise, joinReply}
 use Rattle.mosaic_join.specs.declared.JoinReply.{JoinReply}
 use Rattle.mosaic_join.specs.declared.JoinReply.the-variants.{Done, Layout, Record, Length, Loop}
 

@@ -10,10 +10,9 @@ use Rattle.mosaic.proofs.Pieces.{piece-unique}
 use Rattle.mosaic_read.specs.Records.{heights, widths}
 use Rattle.mosaic_step.specs.Table.{WellFormed, Table, firstIn}
 use Rattle.mosaic_step.proofs.Known.{borders-are}
-use Rattle.mosaic_read.specs.Said.{recordOf, numberIn}
-use Rattle.mosaic_join.specs.Joining.{borders}
-use Rattle.mosaic_join.specs.Method.{firstOf}
-use Rattle.mosaic_join.proofs.Told.{first-next}
+use Rattle.mosaic_read.specs.Said.{borders, recordOf, numberIn}
+use Rattle.mosaic_net.specs.Method.{firstOf}
+use Rattle.mosaic_net.proofs.Told.{first-next}
 
 module _ (I J : ℕ) (bytes : List ℕ) (w : WellFormed I J bytes) (g : ℕ) (l : g < borders I J bytes) where
   -- there is a tile

@@ -6,11 +6,10 @@ use mathlib.Core.Path.{_≡_}
 use Prim.Native.Nat.{ℕ, _<_}
 use lib.ListN.{length, replicate}
 use Rattle.flow.specs.Net.{FirstLoop}
-use Rattle.mosaic.specs.Join.{feeds, Totals, comesIn}
-use Rattle.mosaic.specs.Layout.{allBorders}
+use Rattle.mosaic.specs.Join.{Totals, comesIn}
 use Rattle.mosaic_read.specs.Read.{MosaicShape, UnlessRecords}
 use Rattle.mosaic_read.specs.Records.{heights, widths}
-use Rattle.mosaic_read.specs.Said.{recordOf, numberIn, saidCount, saidWay, saidCode}
+use Rattle.mosaic_read.specs.Said.{borders, feedsBy, recordOf, numberIn, saidCount, saidWay, saidCode}
 use Rattle.promise.specs.Links.{Unless, UnlessSome, _then_}
 use Rattle.promise.specs.Reply.{Reply}
 use Rattle.promise.specs.Reply.Reply.{reply}
@@ -49,14 +48,6 @@ ends said incoming work = record { said = said; incoming = incoming; work = work
 -- ---- what the records say
 
 module _ (I J : ℕ) (bytes : List ℕ) where
-  -- how many border cells the mosaic has
-  abbrev pub borders : ℕ
-  borders = allBorders I J (heights bytes J) (widths bytes)
-
-  -- the exit that each exit feeds
-  abbrev pub feedsBy : ℕ → ℕ
-  feedsBy = feeds I J (heights bytes J) (widths bytes) (saidWay bytes I J) (saidCode bytes I J)
-
   -- an exit's total is its own count plus all that comes in at border cells with that way
   abbrev pub TotalsBy : (ℕ → ℕ) → Type 0
   TotalsBy T = Totals I J (heights bytes J) (widths bytes) (saidCount bytes I J) (saidWay bytes I J) (saidCode bytes I J) T
@@ -67,36 +58,36 @@ module _ (I J : ℕ) (bytes : List ℕ) where
 
   -- exits that feed each other round: of all exits on any loop the first, and the number of exits on its loop
   abbrev pub ExitLoop : LoopFound → Type 0
-  ExitLoop v = FirstLoop borders feedsBy (v .place) (v .len)
+  ExitLoop v = FirstLoop (borders I J bytes) (feedsBy I J bytes) (v .place) (v .len)
 
   -- ---- the promise
 
   -- incoming and four work buffers have one number for each border cell of the mosaic, the fifth has 128
   pub record JoinLengths (incoming : List ℕ) (work : Work) : Type 0 where
-    pub incoming-long : length incoming ≡ borders
-    pub work1-long : length (work .work1) ≡ borders
-    pub work2-long : length (work .work2) ≡ borders
-    pub work3-long : length (work .work3) ≡ borders
-    pub work4-long : length (work .work4) ≡ borders
+    pub incoming-long : length incoming ≡ borders I J bytes
+    pub work1-long : length (work .work1) ≡ borders I J bytes
+    pub work2-long : length (work .work2) ≡ borders I J bytes
+    pub work3-long : length (work .work3) ≡ borders I J bytes
+    pub work4-long : length (work .work4) ≡ borders I J bytes
     pub work5-long : length (work .work5) ≡ 128
 
   -- work buffers that hold 0 throughout
   abbrev pub cleared : Work
-  cleared = works (replicate borders 0) (replicate borders 0) (replicate borders 0) (replicate borders 0) (replicate 128 0)
+  cleared = works (replicate (borders I J bytes) 0) (replicate (borders I J bytes) 0) (replicate (borders I J bytes) 0) (replicate (borders I J bytes) 0) (replicate 128 0)
 
   -- done: each border cell's incoming is that of the exits' totals, and the work buffers hold 0
   pub record Joined (e : JoinOutcome) : Type 0 where
     pub totals : ℕ → ℕ
     pub solve : TotalsBy totals
-    pub long : length (e .incoming) ≡ borders
-    pub comes : (h : ℕ) → h < borders → countAt (e .incoming) h ≡ incomingBy totals h
+    pub long : length (e .incoming) ≡ borders I J bytes
+    pub comes : (h : ℕ) → h < borders I J bytes → countAt (e .incoming) h ≡ incomingBy totals h
     pub work-clear : e .work ≡ cleared
     pub said-is : e .said ≡ reply 0 []
 
   -- of well-formed records and buffers whose lengths fit: 4, done. After 4 incoming and work buffers hold 0 throughout
   abbrev pub JoinExits : JoinOutcome → Type 0
   JoinExits =
-      UnlessSome ExitLoop (λ v. ends (reply 4 (recordOf bytes I J (v .place) ∷ numberIn bytes I J (v .place) ∷ v .len ∷ [])) (replicate borders 0) cleared) then
+      UnlessSome ExitLoop (λ v. ends (reply 4 (recordOf bytes I J (v .place) ∷ numberIn bytes I J (v .place) ∷ v .len ∷ [])) (replicate (borders I J bytes) 0) cleared) then
       Joined
 
 -- joining: 9 with 0, records with 8 or 9, 2, 4, done. After every refusal but 4 incoming and work buffers are as they were lent

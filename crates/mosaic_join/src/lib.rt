@@ -1,8 +1,6 @@
 // Joining the border records of a mosaic: what comes in at each border cell, from the totals of the exits that step onto it. The exits are
 // a net, each fed by the exits that step onto border cells with that way, and its counts are their totals.
 mod gather;
-mod leads;
-mod pours;
 mod tiles;
 
 ghost use mathlib.Core.Path.{_≡_};
@@ -11,18 +9,16 @@ ghost use Rattle.promise.specs.Links.{Unless};
 ghost use Rattle.promise.specs.Reply.Reply.{reply};
 ghost use mathlib.Core.List.{[]};
 ghost use Rattle.mosaic_step.specs.Table.{WellFormed};
-ghost use Rattle.mosaic_join.specs.Joining.{borders, cleared, works, ends, joinReply, JoinPromise, JoinLengths, JoinExits};
-ghost use Rattle.mosaic_join.specs.Method.{NetWritten};
+ghost use Rattle.mosaic_join.specs.Joining.{cleared, works, ends, joinReply, JoinPromise, JoinLengths, JoinExits};
+ghost use Rattle.mosaic_read.specs.Said.{borders};
+ghost use Rattle.mosaic_net.specs.Method.{NetWritten};
 use crate::gather::gather;
-use crate::leads::fill_leads;
-use crate::pours::fill_feeds;
-use crate::pours::fill_pours;
 use crate::tiles::tile_of;
 use listed_net::NetCounted;
 use listed_net::count_net;
+use mosaic_net::write_net;
 use mosaic_read::ReadReply;
 use mosaic_read::read_records;
-use mosaic_step::table::fill_table;
 use mosaic_step::table::first_border;
 use sheet::totals::clear;
 
@@ -173,33 +169,6 @@ fn join_exits(
     );
     clear_works(work1, work2, work3, work4, work5);
     r
-}
-
-// Writes down the net of the exits. Where border cells lead is written first, for the others to be found by, and cleared at last.
-fn write_net(
-    tile_rows: usize,
-    tile_cols: usize,
-    records: &[u8],
-    leads: &mut [u32],
-    pours: &mut [u32],
-    feeds: &mut [u32],
-    own: &mut [u32],
-    table: &mut [u32],
-)
-    requires { ⌜ WellFormed «tile_rows» «tile_cols» (now records) ⌝ }
-    requires { ⌜ length (now leads) ≡ borders «tile_rows» «tile_cols» (now records) ⌝ }
-    requires { ⌜ length (now pours) ≡ borders «tile_rows» «tile_cols» (now records) ⌝ }
-    requires { ⌜ length (now feeds) ≡ borders «tile_rows» «tile_cols» (now records) ⌝ }
-    requires { ⌜ length (now own) ≡ borders «tile_rows» «tile_cols» (now records) ⌝ }
-    requires { ⌜ length (now table) ≡ 128 ⌝ }
-    ensures { λ _. ⌜ NetWritten «tile_rows» «tile_cols» (now (records .entry)) (now (pours .exit)) (now (feeds .exit)) (now (own .exit)) (now (table .exit)) ⌝ }
-    ensures { λ _. ⌜ now (leads .exit) ≡ replicate (borders «tile_rows» «tile_cols» (now (records .entry))) 0 ⌝ }
-{
-    fill_table(tile_rows, tile_cols, records, table);
-    fill_leads(tile_rows, tile_cols, records, table, leads);
-    fill_pours(tile_rows, tile_cols, records, table, leads, pours, own);
-    fill_feeds(leads, pours, feeds);
-    clear(leads);
 }
 
 // Counts on the net of the exits, and says what is found: exits that feed each other round, or none. Then what comes in is gathered.

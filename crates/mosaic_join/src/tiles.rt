@@ -2,8 +2,7 @@
 ghost use mathlib.Core.Path.{_≡_};
 ghost use Prim.Native.Nat.{_<_};
 ghost use Rattle.mosaic_step.specs.Table.{WellFormed, Table};
-ghost use Rattle.mosaic_join.specs.Joining.{borders};
-ghost use Rattle.mosaic_read.specs.Said.{recordOf};
+ghost use Rattle.mosaic_read.specs.Said.{borders, recordOf};
 use mosaic_step::table::first_border;
 
 // The tile of border cell g: the last whose first border number is not above it.

@@ -13,9 +13,9 @@ use Rattle.flow.proofs.Sum.{same}
 use Rattle.mosaic.specs.Layout.{sheetRows, sheetCols, heightOf, widthOf}
 use Rattle.mosaic.proofs.Tiled.{tile-free, join-free}
 use Rattle.mosaic.proofs.Totals.{feeds-out}
-use Rattle.mosaic_join.specs.Joining.{ExitLoop, borders, feedsBy}
+use Rattle.mosaic_join.specs.Joining.{ExitLoop}
 use Rattle.mosaic_read.specs.Records.{heights, widths}
-use Rattle.mosaic_read.specs.Said.{saidCount, saidWay, saidCode}
+use Rattle.mosaic_read.specs.Said.{borders, feedsBy, saidCount, saidWay, saidCode}
 use Rattle.promise.specs.Reply.{numberOf}
 use Rattle.promise.proofs.Each.{unless-each, unless-all-each, unless-some-each}
 use Rattle.sheet.specs.Sheet.{LoopFound, LoopIn, destOf, SheetOnLoop, SheetNoLoop}

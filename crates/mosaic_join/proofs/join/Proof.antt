@@ -5,7 +5,7 @@ use native.Mathlib.Omega.{arith}
 use Rattle.promise.specs.Links.Unless.{refused, met}
 use Rattle.mosaic_join.specs.Joining.{ends, works}
 use Rattle.mosaic_join.proofs.Refuse.{rows-many, cols-many, tiles-none, tiles-many, tiles-small, shape-of, read-refused, read-found, read-on, read-well}
-use Rattle.mosaic_join.proofs.Told.{borders-read}
+use Rattle.mosaic_net.proofs.Told.{borders-read}
 use borrow.Author.Needs.{needs}
 use Rattle.mosaic_join.proofs.join.Statement.{statement}
 use Rattle.mosaic_join.proofs.join.Tie as tie

@@ -5,11 +5,6 @@ use Rattle.mosaic_join.proofs.Answers.{works-cleared, when-cleared}
 use borrow.Author.Needs.{needs}
 use Rattle.mosaic_join.proofs.join_exits.Statement.{statement}
 use Rattle.mosaic_join.proofs.join_exits.Tie as tie
-use Rattle.mosaic_join.proofs.join_exits.Reads as reads
-use Rattle.mosaic_join.proofs.join_exits.Lts as lts
-use Rattle.mosaic_join.proofs.clear_works.Reads as clear-works-reads
-use Rattle.mosaic_join.proofs.settle.Reads as settle-reads
-use Rattle.mosaic_join.proofs.write_net.Reads as write-net-reads
 
 write-net-requires : tie.Need-write-net-requires
 write-net-requires c κs = let s = c .before .before .before .before .before .before .before .before .before .before .before .before in let a = s .args in let l = s .pre .1 in (s .pre .0, (l .incoming-long, (l .work1-long, (l .work2-long, (l .work3-long, l .work5-long)))))

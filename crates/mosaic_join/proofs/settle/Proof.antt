@@ -4,17 +4,11 @@ use mathlib.Core.Path.{refl, sym, ap, _∙_}
 use Prim.Native.Nat.{ℕ}
 use lib.ListN.{replicate}
 use Rattle.mosaic_join.proofs.Answers.{net-lent, loop-is, gather-lent, answers-loop, answers-done}
-use Rattle.mosaic_join.proofs.At.{table-in}
+use Rattle.mosaic_net.proofs.At.{table-in}
 use Rattle.mosaic_join.proofs.TileFound.{tile-there, first-le, number-left}
 use borrow.Author.Needs.{needs}
 use Rattle.mosaic_join.proofs.settle.Statement.{statement}
 use Rattle.mosaic_join.proofs.settle.Tie as tie
-use Rattle.mosaic_join.proofs.settle.Reads as reads
-use Rattle.mosaic_join.proofs.settle.Lts as lts
-use Rattle.listed_net.proofs.count_net.Reads as count-net-reads
-use Rattle.mosaic_join.proofs.gather.gather.Reads as gather-reads
-use Rattle.mosaic_join.proofs.tiles.tile_of.Reads as tile-of-reads
-use Rattle.mosaic_step.proofs.table.first_border.Reads as first-border-reads
 
 count-net-requires : tie.Need-count-net-requires
 count-net-requires c κs = let s = c .before .before .before .before .before .before .before .before .before in let a = s .args in net-lent (a .tile-rows) (a .tile-cols) (a .records .now) (s .pre .0) (a .feeds .now) (a .totals .now) (s .pre .1 .0 .feeds-are) (s .pre .1 .0 .own-are) (a .waiting .now) (s .pre .1 .1 .1)

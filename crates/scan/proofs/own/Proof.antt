@@ -5,9 +5,6 @@ use native.Mathlib.Omega.{arith}
 use borrow.Author.Needs.{needs}
 use Rattle.scan.proofs.own.Statement.{statement}
 use Rattle.scan.proofs.own.Tie as tie
-use Rattle.scan.proofs.own.Reads as reads
-use Rattle.scan.proofs.own.Lts as lts
-use Rattle.scan.proofs.one_more.Reads as one-more-reads
 
 mul-one-more : tie.Need-mul-one-more
 mul-one-more c = search needs

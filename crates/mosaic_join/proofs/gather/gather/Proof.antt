@@ -8,9 +8,6 @@ use Rattle.mosaic_join.proofs.Sums.{gathered-none, gathered-at}
 use borrow.Author.Needs.{needs}
 use Rattle.mosaic_join.proofs.gather.gather.Statement.{statement}
 use Rattle.mosaic_join.proofs.gather.gather.Tie as tie
-use Rattle.mosaic_join.proofs.gather.gather.Reads as reads
-use Rattle.mosaic_join.proofs.gather.gather.Lts as lts
-use Rattle.mosaic_join.proofs.gather.gather_one.Reads as gather-one-reads
 
 abbrev Inv-loop : tie.InvT-loop
 Inv-loop to totals sums₀ q₀ sums q = (q ≤ length to) × Gathered to totals sums q

@@ -5,9 +5,6 @@ use Rattle.mosaic_join.proofs.Sums.{gathered-out, gathered-fits, gather
 use borrow.Author.Needs.{needs}
 use Rattle.mosaic_join.proofs.gather.gather_one.Statement.{statement}
 use Rattle.mosaic_join.proofs.gather.gather_one.Tie as tie
-use Rattle.mosaic_join.proofs.gather.gather_one.Reads as reads
-use Rattle.mosaic_join.proofs.gather.gather_one.Lts as lts
-use Rattle.listed_net.proofs.method.arrow.Reads as arrow-reads
 
 arrow-requires : tie.Need-arrow-requires
 arrow-requires c κs = search needs

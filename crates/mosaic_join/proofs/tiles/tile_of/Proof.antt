@@ -4,15 +4,12 @@ use mathlib.Core.Path.{_≡_, ap}
 use native.Mathlib.Omega.{arith}
 use Prim.Native.Nat.{_+_, _*_, _-_, _≤_, _<_}
 use Rattle.mosaic_step.proofs.Known.{before-none}
-use Rattle.mosaic_join.specs.Method.{firstOf}
-use Rattle.mosaic_join.proofs.At.{table-in}
+use Rattle.mosaic_net.specs.Method.{firstOf}
+use Rattle.mosaic_net.proofs.At.{table-in}
 use Rattle.mosaic_join.proofs.TileFound.{some-tile, tile-found}
 use borrow.Author.Needs.{needs}
 use Rattle.mosaic_join.proofs.tiles.tile_of.Statement.{statement}
 use Rattle.mosaic_join.proofs.tiles.tile_of.Tie as tie
-use Rattle.mosaic_join.proofs.tiles.tile_of.Reads as reads
-use Rattle.mosaic_join.proofs.tiles.tile_of.Lts as lts
-use Rattle.mosaic_step.proofs.table.first_border.Reads as first-border-reads
 
 abbrev Inv-loop : tie.InvT-loop
 Inv-loop tile-rows tile-cols records table g tiles t₀ t = (t < tile-rows * tile-cols) × (firstOf tile-rows tile-cols records t ≤ g)
