@@ -3,15 +3,16 @@
 use mathlib.Core.Bool.{false}
 use mathlib.Core.List.{List, []}
 use mathlib.Core.Logic.{_↔_}
-use mathlib.Core.Path.{_≡_, refl, sym, _∙_}
+use mathlib.Core.Path.{_≡_, refl, ap}
 use Prim.Native.Nat.{ℕ, _*_, _<_}
 use native.Mathlib.Omega.{arith}
 use Rattle.flow.proofs.Sum.{on-false}
 use Rattle.promise.specs.Links.Unless.{met}
 use Rattle.promise.specs.Links.UnlessAll.{met-all}
-use Rattle.promise.specs.Reply.{Reply}
+use Rattle.promise.specs.Reply.{Reply, numberOf}
 use Rattle.promise.specs.Reply.Reply.{reply}
-use Rattle.promise.proofs.Apart.{number-same, unless-met, unless-all-met}
+use Rattle.promise.proofs.Apart.{other}
+use Rattle.promise.proofs.Each.{unless-each, unless-all-each}
 use Rattle.sheet.specs.Sheet.{SheetNoLoop, landAt, countAt}
 use Rattle.sheet.proofs.Given.{given-absent}
 use Rattle.sheet.proofs.Passes.{counts-no-loop}
@@ -25,12 +26,10 @@ absent-must-be-0 rows cols grid counts p l t =
 
 module _ (rows cols : ℕ) (grid counts : List ℕ) (said : Reply) (promise : CheckPromise rows cols grid counts said) where
   done-right : said ≡ reply 0 [] → Right rows cols grid counts
-  done-right done =
-      let (a, r1) = unless-met promise (λ e. omega (arith, number-same (sym done ∙ e))) in
-      let (b, r2) = unless-met r1 (λ e. omega (arith, number-same (sym done ∙ e))) in
-      let (c, r3) = unless-all-met r2 (λ p e. omega (arith, number-same (sym done ∙ e))) in
-      let (d, r4) = unless-all-met r3 (λ p e. omega (arith, number-same (sym done ∙ e))) in
-      record { shape = a; lengths = b; codes = c; equation = d }
+  done-right =
+      let P : Reply → Type 0 = λ r. r ≡ reply 0 [] → Right rows cols grid counts in
+      unless-each P (λ n e. other refl (ap numberOf e)) (λ a. unless-each P (λ n e. other refl (ap numberOf e)) (λ b. unless-all-each P (λ p f e. other refl (ap numberOf e)) (λ c.
+      unless-all-each P (λ p f e. other refl (ap numberOf e)) (λ d r e. record { shape = a; lengths = b; codes = c; equation = d })))) promise
 
   -- DONE IS SAID EXACTLY WHEN shape, lengths and codes are right and the counts satisfy equation 1
   pub check-done-iff : (said ≡ reply 0 []) ↔ Right rows cols grid counts

@@ -8,7 +8,7 @@ use Prim.Native.Nat.{ℕ, _/_, _%_}
 use Rattle.flow.specs.Net.{NoLoop}
 use Rattle.flow.proofs.Loop.{first-loop-free}
 use Rattle.promise.specs.Reply.{numberOf}
-use Rattle.promise.proofs.Apart.{unless-ok, unless-all-ok, unless-some-ok}
+use Rattle.promise.proofs.Apart.{other, unless-ok, unless-all-ok, unless-some-ok}
 use Rattle.promise.proofs.Each.{unless-each, unless-all-each, unless-some-each}
 use Rattle.sheet.specs.Sheet.{SheetNoLoop}
 use Rattle.sheet.proofs.Passes.{counts-no-loop}
@@ -22,7 +22,6 @@ use Rattle.tile_record.specs.Record.{RecordPromise, RecordOutcome}
 use Rattle.demands.specs.Said.{Done}
 use Rattle.demands.specs.Sheets.{Permitted, PermittedRecord, PermittedFinish, PermittedJoin}
 use Rattle.demands.proofs.Numbers.{fault-refused}
-use Rattle.demands.proofs.Other.{other}
 
 module _ (rows cols : ℕ) (grid counts : List ℕ) (e : CountOutcome) (kept : CountPromise rows cols grid counts e) where
   pub counting-done-iff : Done (e .said) ↔ (Permitted rows cols grid counts × SheetNoLoop rows cols grid)

@@ -1,7 +1,6 @@
 pub mod Outcomes
 pub mod Numbers
 pub mod Remains
-pub mod Other
 pub mod Fitting
 pub mod Loops
 pub mod Counting

@@ -8,7 +8,7 @@ use mathlib.Core.Path.{_≡_, refl}
 use Prim.Native.Nat.{ℕ, _/_, _%_}
 use Rattle.promise.specs.Reply.{Reply}
 use Rattle.promise.specs.Reply.Reply.{reply}
-use Rattle.promise.proofs.Apart.{unless-ok, unless-all-ok}
+use Rattle.promise.proofs.Apart.{other, other-said, unless-ok, unless-all-ok}
 use Rattle.promise.proofs.Each.{unless-each, unless-all-each, unless-some-each}
 use Rattle.sheet.specs.Sheet.{LoopFound, LoopIn}
 use Rattle.sheet.proofs.Passes.{counts-no-loop}
@@ -19,11 +19,11 @@ use Rattle.mosaic_join.proofs.One.{exits-free}
 use Rattle.mosaic_read.specs.Said.{recordOf, numberIn}
 use Rattle.tile_finish.specs.Finish.{FinishPromise, FinishOutcome}
 use Rattle.tile_finish.proofs.One.{finished-no-loop}
+use Rattle.tile_finish.proofs.Refused.{finish-loop}
 use Rattle.tile_record.specs.Record.{RecordPromise, RecordOutcome}
 use Rattle.demands.specs.Said.{RefusedForLoop}
 use Rattle.demands.specs.Sheets.{PermittedRecord, PermittedFinish, PermittedJoin, ArrowsFormLoop, ExitsFormLoop}
 use Rattle.demands.proofs.Numbers.{fault-refused}
-use Rattle.demands.proofs.Other.{other, other-said}
 
 -- a reply of 4 returns the smallest place on any loop of a grid, and that loop's length
 abbrev LoopReturned : (rows cols : ℕ) (grid : List ℕ) → Reply → Type 0
@@ -59,10 +59,7 @@ module _ (rows cols tileRow tileCol : ℕ) (grid bytes work1 work2 : List ℕ) (
 
 module _ (rows cols : ℕ) (grid incoming counts work : List ℕ) (e : FinishOutcome) (kept : FinishPromise rows cols grid incoming counts work e) where
   pub finishing-loop-returned : LoopReturned rows cols grid (e .said)
-  finishing-loop-returned =
-      let P : FinishOutcome → Type 0 = λ e. LoopReturned rows cols grid (e .said) in
-      unless-each P (λ n. other refl) (λ a. unless-each P (λ n. other refl) (λ b. unless-all-each P (λ p f. other refl) (λ k. unless-all-each P (λ p f. other refl) (λ i.
-      unless-some-each P (λ v l h. (v, l, refl)) (λ n d. other-said refl (d .said-is)))))) kept
+  finishing-loop-returned = finish-loop rows cols grid incoming counts work e kept
 
   pub finishing-refused-exactly-for-a-loop : PermittedFinish rows cols grid incoming counts work → RefusedForLoop (e .said) ↔ ArrowsFormLoop rows cols grid
   finishing-refused-exactly-for-a-loop s =

@@ -7,6 +7,7 @@ use mathlib.Core.Path.{_≡_, refl, ap}
 use Prim.Native.Nat.{ℕ, zero, suc, _/_, _%_}
 use lib.Dec.{eqb}
 use Rattle.promise.specs.Reply.{Reply, numberOf}
+use Rattle.promise.proofs.Apart.{other}
 use Rattle.promise.proofs.Each.{unless-each, unless-all-each, unless-some-each}
 use Rattle.checking.specs.Check.{CheckPromise}
 use Rattle.count.specs.Count.{CountPromise, CountOutcome}
@@ -16,7 +17,6 @@ use Rattle.mosaic_read.specs.Read.{faultAt}
 use Rattle.tile_finish.specs.Finish.{FinishPromise, FinishOutcome}
 use Rattle.tile_record.specs.Record.{RecordPromise, RecordOutcome}
 use Rattle.demands.specs.Said.{oneOf}
-use Rattle.demands.proofs.Other.{other}
 
 -- the numbers of each operation, 0 last
 abbrev counting : List ℕ

@@ -8,12 +8,13 @@ use Prim.Native.Nat.{ℕ, _*_, _<_}
 use native.Mathlib.Omega.{arith}
 use lib.ListN.{length, set, length-set}
 use lib.Seq.{getD-set-other, set-getD}
-use Rattle.promise.specs.Links.Unless.{refused, met}
-use Rattle.promise.specs.Links.UnlessAll.{refused-at, met-all}
+use Rattle.promise.specs.Links.Unless.{met}
+use Rattle.promise.specs.Links.UnlessAll.{met-all}
 use Rattle.promise.specs.Links.UnlessSome.{refused-with, met-none}
-use Rattle.promise.specs.Reply.{Reply, numberOf}
+use Rattle.promise.specs.Reply.{numberOf}
 use Rattle.promise.specs.Reply.Reply.{reply}
-use Rattle.promise.proofs.Apart.{unless-met, unless-all-met, unless-some-met, unless-ok, unless-all-ok}
+use Rattle.promise.proofs.Apart.{other, unless-ok, unless-all-ok}
+use Rattle.promise.proofs.Each.{unless-each, unless-all-each, unless-some-each}
 use Rattle.flow.specs.Net.{downb}
 use Rattle.flow.proofs.Alike.{differs-only}
 use Rattle.flow.proofs.Loop.{loop-or-free, first-loop-free}
@@ -42,19 +43,12 @@ module _ (rows cols : ℕ) (grid counts : List ℕ) (place code : ℕ) where
     changes m =
         unless-ok (unless-ok (unless-all-ok (unless-all-ok (unless-ok (unless-ok promise (m .right .shape)) (m .right .lengths)) (m .right .codes)) (m .right .equation)) (m .inside)) (m .code-ok)
 
-    not-said : numberOf (e .said) ≡ 0 → {n : ℕ} → (n ≡ 0 → ⊥) → {f : MendOutcome} → numberOf (f .said) ≡ n → e ≡ f → ⊥
-    not-said z h k d = h (sym k ∙ ap (λ (y : MendOutcome). numberOf (y .said)) (sym d) ∙ z)
-
     passed : numberOf (e .said) ≡ 0 → Mendable rows cols grid counts place code × Mended rows cols grid place code e
-    passed z =
-        let (a, r1) = unless-met promise (not-said z {n = 1} (λ k. omega arith) refl) in
-        let (b, r2) = unless-met r1 (not-said z {n = 2} (λ k. omega arith) refl) in
-        let (c, r3) = unless-all-met r2 (λ p. not-said z {n = 3} (λ k. omega arith) refl) in
-        let (d, r4) = unless-all-met r3 (λ p. not-said z {n = 5} (λ k. omega arith) refl) in
-        let (f, r5) = unless-met r4 (not-said z {n = 6} (λ k. omega arith) refl) in
-        let (g, r6) = unless-met r5 (not-said z {n = 7} (λ k. omega arith) refl) in
-        let (h, r7) = unless-some-met r6 (λ v. not-said z {n = 4} (λ k. omega arith) refl) in
-        (record { right = record { shape = a; lengths = b; codes = c; equation = d }; inside = f; code-ok = g }, r7)
+    passed =
+        let P : MendOutcome → Type 0 = λ e. numberOf (e .said) ≡ 0 → Mendable rows cols grid counts place code × Mended rows cols grid place code e in
+        unless-each P (λ n. other refl) (λ a. unless-each P (λ n. other refl) (λ b. unless-all-each P (λ p f. other refl) (λ c. unless-all-each P (λ p f. other refl) (λ d.
+        unless-each P (λ n. other refl) (λ i. unless-each P (λ n. other refl) (λ k. unless-some-each P (λ v w. other refl) (λ n s z.
+        (record { right = record { shape = a; lengths = b; codes = c; equation = d }; inside = i; code-ok = k }, s)))))))) promise
 
     -- ---- done
 
@@ -138,20 +132,11 @@ module _ (rows cols : ℕ) (grid counts : List ℕ) (place code : ℕ) where
 
     -- A REFUSAL leaves grid and counts as they were lent
     pub refused-as-lent : (numberOf (e .said) ≡ 0 → ⊥) → (e .grid ≡ grid) × (e .counts ≡ counts)
-    refused-as-lent h = as-lent promise
-      where
-        unchanged : {said : Reply} → e ≡ ends said grid counts → (e .grid ≡ grid) × (e .counts ≡ counts)
-        unchanged d = (ap (λ (y : MendOutcome). y .grid) d, ap (λ (y : MendOutcome). y .counts) d)
-
-        as-lent : MendPromise rows cols grid counts place code e → (e .grid ≡ grid) × (e .counts ≡ counts)
-        as-lent (refused n d) = unchanged d
-        as-lent (met a (refused n d)) = unchanged d
-        as-lent (met a (met b (refused-at p f d))) = unchanged d
-        as-lent (met a (met b (met-all k (refused-at p f d)))) = unchanged d
-        as-lent (met a (met b (met-all k (met-all l (refused n d))))) = unchanged d
-        as-lent (met a (met b (met-all k (met-all l (met i (refused n d)))))) = unchanged d
-        as-lent (met a (met b (met-all k (met-all l (met i (met j (refused-with v w d))))))) = unchanged d
-        as-lent (met a (met b (met-all k (met-all l (met i (met j (met-none n s))))))) = absurd (h (ap numberOf (s .said-is)))
+    refused-as-lent =
+        let P : MendOutcome → Type 0 = λ e. (numberOf (e .said) ≡ 0 → ⊥) → (e .grid ≡ grid) × (e .counts ≡ counts) in
+        unless-each P (λ n h. (refl, refl)) (λ a. unless-each P (λ n h. (refl, refl)) (λ b. unless-all-each P (λ p f h. (refl, refl)) (λ c.
+        unless-all-each P (λ p f h. (refl, refl)) (λ d. unless-each P (λ n h. (refl, refl)) (λ i. unless-each P (λ n h. (refl, refl)) (λ k.
+        unless-some-each P (λ v w h. (refl, refl)) (λ n s h. absurd (h (ap numberOf (s .said-is)))))))))) promise
 
     -- ---- the code already there
 

@@ -4,3 +4,4 @@ pub mod Weights
 pub mod Answers
 pub mod One
 pub mod Words
+pub mod Refused

@@ -1,12 +1,10 @@
 -- THE TILED THEOREM (paper 01, "Demand 2 over tiles"), of loops: some step refuses for a loop exactly where the whole sheet has one. (Of counts: Whole.antt.)
 -- Assumes nothing.
-use mathlib.Core.Bool.{false, true≢false}
 use mathlib.Core.List.{List}
 use mathlib.Core.Logic.{_⊎_, inl, inr, _↔_}
-use mathlib.Core.Path.{_≡_, refl, sym, ap, _∙_}
+use mathlib.Core.Path.{_≡_, ap}
 use Prim.Native.Nat.{ℕ, zero, suc, _*_, _<_, _≤_}
 use native.Mathlib.Omega.{arith}
-use lib.Dec.{eqb}
 use Rattle.flow.specs.Net.{NoLoop}
 use Rattle.flow.proofs.Loop.{loop-or-free}
 use Rattle.flow.proofs.Sum.{same}
@@ -17,10 +15,9 @@ use Rattle.mosaic_join.specs.Joining.{ExitLoop}
 use Rattle.mosaic_read.specs.Records.{heights, widths}
 use Rattle.mosaic_read.specs.Said.{borders, feedsBy, saidCount, saidWay, saidCode}
 use Rattle.promise.specs.Reply.{numberOf}
-use Rattle.promise.proofs.Each.{unless-each, unless-all-each, unless-some-each}
-use Rattle.sheet.specs.Sheet.{LoopFound, LoopIn, destOf, SheetOnLoop, SheetNoLoop}
+use Rattle.sheet.specs.Sheet.{LoopFound, destOf, SheetOnLoop, SheetNoLoop}
 use Rattle.sheet.proofs.Dest.{dest-beyond}
-use Rattle.tile_finish.specs.Finish as F
+use Rattle.tile_finish.proofs.Refused.{finish-loop}
 use Rattle.tiled.specs.Run.{CutSheet, Writing, Joining, Finishing, AllWritten, recordsOf, SomeStepRefuses, SheetHasLoop}
 use Rattle.tiled.proofs.Joins.{fits-told, cut-told, free-told, tells-told, sheet-same, cols-same, join-says}
 use Rattle.tiled.proofs.Steps.{Wrote, record-says}
@@ -82,17 +79,6 @@ module _ (I J : ℕ) (hs ws : ℕ → ℕ) (sheet : List ℕ) (tiles : ℕ → L
         (saidCount bytes I J) (saidWay bytes I J) (saidCode bytes I J) (free-told I J hs ws sheet tiles s w all) (tells-told I J hs ws sheet tiles s w all) .1 free in
         rw (← sheet-same I J hs ws sheet tiles s w all, ← cols-same I J hs ws sheet tiles s w all) whole
 
-  -- ---- finishing
-
-  -- finishing a tile is refused for a loop only where the tile has one
-  finish-loop : (t : ℕ) {incoming counts work : List ℕ} (e : F.FinishOutcome) → F.FinishPromise (heightOf J hs t) (widthOf J ws t) (tiles t) incoming counts work e
-      → numberOf (e .said) ≡ 4 → (v : LoopFound) × LoopIn (heightOf J hs t) (widthOf J ws t) (tiles t) v
-  finish-loop t e =
-      let P : F.FinishOutcome → Type 0 = λ e. numberOf (e .said) ≡ 4 → (v : LoopFound) × LoopIn (heightOf J hs t) (widthOf J ws t) (tiles t) v in
-      let other : (n : ℕ) → eqb n 4 ≡ false → n ≡ 4 → ⊥ = λ n d h. true≢false (sym (ap (λ (x : ℕ). eqb x 4) h) ∙ d) in
-      unless-each P (λ n h. absurd (other 1 refl h)) (λ a. unless-each P (λ n h. absurd (other 2 refl h)) (λ b. unless-all-each P (λ p f h. absurd (other 3 refl h)) (λ k.
-      unless-all-each P (λ p f h. absurd (other 10 refl h)) (λ l. unless-some-each P (λ v first h. (v, first)) (λ n d h. absurd (other 0 refl (sym (ap numberOf (d .said-is)) ∙ h)))))))
-
   -- ---- SOME STEP REFUSES FOR A LOOP EXACTLY WHERE THE WHOLE SHEET HAS ONE
 
   module _ (j : AllWritten I J hs ws sheet tiles w → Joining I J hs ws sheet tiles w)
@@ -110,7 +96,8 @@ module _ (I J : ℕ) (hs ws : ℕ → ℕ) (sheet : List ℕ) (tiles : ℕ → L
       | inr u ↦ absurd (omega (arith, ap numberOf (u .1 .said-is)))
     ]
     says (inr (inr (all, done, t, l, four))) =
-        let (v, first) = finish-loop t (f all done .finished t) (f all done .outcome t l) four in
+        let g = f all done in
+        let (v, first, is) = finish-loop (heightOf J hs t) (widthOf J ws t) (tiles t) (g .incoming t) (g .counts t) (g .work t) (g .finished t) (g .outcome t l) four in
         tile-loop t (v .place) l (first .here)
 
     heard : SheetHasLoop I J hs ws sheet tiles → SomeStepRefuses I J hs ws sheet tiles w j f
