@@ -5,4 +5,5 @@ pub mod Fitting
 pub mod Loops
 pub mod Counting
 pub mod Tiles
+pub mod Incoming
 pub mod Mending

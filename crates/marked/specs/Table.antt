@@ -1,4 +1,4 @@
--- The sheets of paper 01, "Sheets small enough to work by hand", that are marked with a star: A to M. Each row of the table has a sheet and
+-- The sheets of paper 01, "Sheets small enough to work by hand": A to M, which are marked with a star, and N. Each row of the table has a sheet and
 -- what the paper says of it; `Says` is what that means.
 -- Assumes nothing.
 use mathlib.Core.List.{List, [], _∷_}
@@ -69,6 +69,7 @@ table =
     sheet 2 2 L (counted (1 ∷ 4 ∷ 2 ∷ 3 ∷ []) 4 1 4) ∷  -- L
     sheet 2 2 L (cut-counted (1 ∷ 1 ∷ []) (2 ∷ []) (1 ∷ 4 ∷ 0 ∷ 3 ∷ []) (1 ∷ 4 ∷ 2 ∷ 3 ∷ [])) ∷  -- L, cut between its rows
     sheet 1 2 (1 ∷ 16 ∷ []) (cut-loop (1 ∷ []) (1 ∷ 1 ∷ []) 0 0 2) ∷  -- M
+    sheet 2 2 (2 ∷ 255 ∷ 255 ∷ 2 ∷ []) (cut-counted (1 ∷ 1 ∷ []) (1 ∷ 1 ∷ []) (1 ∷ 0 ∷ 0 ∷ 2 ∷ []) (1 ∷ 0 ∷ 0 ∷ 2 ∷ [])) ∷  -- N, in four tiles
     []
 
 -- ---- what a row means

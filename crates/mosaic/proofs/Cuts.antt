@@ -1,7 +1,7 @@
 -- A sheet and its tiles: each tile, counted by itself, is a part of the sheet's net without the arrows that cross an edge.
 -- Assumes nothing.
 use mathlib.Core.Path.{_≡_, refl, sym, ap, _∙_}
-use mathlib.Core.Bool.{Bool, true, false, not, _&&_, true≢false}
+use mathlib.Core.Bool.{Bool, true, false, not, _&&_, and-false, true≢false}
 use mathlib.Core.List.{List}
 use mathlib.Core.Logic.{inl, inr}
 use Prim.Native.Nat.{ℕ, _*_, _≤_, _<_}
@@ -56,10 +56,6 @@ module _ (I J : ℕ) (hs ws : ℕ → ℕ) (sheet : List ℕ) where
   cut-over : (p : ℕ) → landAt sheet p ≡ true → (tileOf I J hs ws (next p) ≡ tileOf I J hs ws p → ⊥) → cutAt p ≡ true
   unfolding cutAt
   cut-over p a d = rw (a, ne-eqb _ _ d, and-false (ltb (next p) N))
-    where
-      and-false : (b : Bool) → (b && false) ≡ false
-      and-false true = refl
-      and-false false = refl
 
   cut-in : (p : ℕ) → next p < N → tileOf I J hs ws (next p) ≡ tileOf I J hs ws p → cutAt p ≡ false
   unfolding cutAt

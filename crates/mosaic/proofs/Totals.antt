@@ -1,11 +1,12 @@
 -- Totals as the paper tells them, of any records: an exit's total is its own count plus all that comes in at border cells with that way.
 -- Assumes nothing.
 use mathlib.Core.Path.{_≡_, refl, sym, ap, _∙_}
-use mathlib.Core.Bool.{Bool, true, false, _&&_, true≢false}
+use mathlib.Core.Bool.{Bool, true, false, cond, _&&_, and-true, and-false, true≢false}
 use mathlib.Core.Logic.{inl, inr, _↔_}
 use Prim.Native.Nat.{ℕ, _+_, _≤_, _<_}
 use native.Mathlib.Omega.{arith}
-use lib.Dec.{eqb}
+use lib.Dec.{eqb, ltb}
+use borrow.Author.Tests.{le-ltb}
 use Rattle.flow.specs.Net.{on, sum}
 use Rattle.flow.proofs.Sum.{test, on-ne, sum-ext, sum-none}
 use Rattle.flow.proofs.Cut.{incoming}
@@ -13,13 +14,9 @@ use Rattle.flow.proofs.Joined as F
 use Rattle.mosaic.specs.Layout.{allBorders}
 use Rattle.mosaic.specs.Join.{exitAt, isLand, onto, leadsTo, feeds, own, Totals, comesIn}
 
-and-false : (b : Bool) → (b && false) ≡ false
-and-false true = refl
-and-false false = refl
-
-and-true : (b : Bool) → (b && true) ≡ b
-and-true true = refl
-and-true false = refl
+cond-same : (b : Bool) (x : ℕ) → cond b x x ≡ x
+cond-same true x = refl
+cond-same false x = refl
 
 module _ (I J : ℕ) (hs ws way code : ℕ → ℕ) where
   -- what is not fed stays so
@@ -31,6 +28,15 @@ module _ (I J : ℕ) (hs ws way code : ℕ → ℕ) where
   pub absent-leads : (g : ℕ) → isLand way code g ≡ false → leadsTo I J hs ws way g ≡ allBorders I J hs ws
   unfolding isLand leadsTo
   absent-leads g e = elim (test (eqb (way g) 65535)) [ inl k ↦ rw k | inr k ↦ absurd (true≢false (sym (rw k) ∙ e)) ]
+
+  -- an exit that steps off the mosaic, or onto an absent cell, feeds nobody
+  pub off-feeds : (g : ℕ) → allBorders I J hs ws ≤ onto I J hs ws code g → feeds I J hs ws way code g ≡ allBorders I J hs ws
+  unfolding feeds
+  off-feeds g l = rw (le-ltb (onto I J hs ws code g) (allBorders I J hs ws) l, and-false (exitAt I J hs ws way g), and-false (ltb g (allBorders I J hs ws))) refl
+
+  pub absent-feeds : (g : ℕ) → isLand way code (onto I J hs ws code g) ≡ false → feeds I J hs ws way code g ≡ allBorders I J hs ws
+  unfolding feeds
+  absent-feeds g e = rw (absent-leads (onto I J hs ws code g) e) (cond-same (ltb g (allBorders I J hs ws) && (exitAt I J hs ws way g && ltb (onto I J hs ws code g) (allBorders I J hs ws))) (allBorders I J hs ws))
 
   -- and nothing comes in there
   pub comes-absent : (T : ℕ → ℕ) (h : ℕ) → isLand way code h ≡ false → comesIn I J hs ws way code T h ≡ 0

@@ -39,6 +39,9 @@ module _ (bytes : List ℕ) (J : ℕ) where
   part-at : (t p : ℕ) → p < 4 → PartOk bytes J ((4 * t + p) / 4) ((4 * t + p) % 4) ≡ PartOk bytes J t p
   part-at t p l = ap₂ (PartOk bytes J) (record-of t p l) (part-of t p l)
 
+  pub parts-records : (k : ℕ) → ((m : ℕ) → m < 4 * k → PartOk bytes J (m / 4) (m % 4)) → AllOk bytes J k
+  parts-records k parts t l = parts-record (λ p lp. transport (part-at t p lp) (parts (4 * t + p) (omega arith)))
+
   -- ---- a fault in record t
 
   before-part : (t p : ℕ) → AllOk bytes J t → ((q : ℕ) → q < p → PartOk bytes J t q) → (m : ℕ) → m < 4 * t + p → p < 4 → PartOk bytes J (m / 4) (m % 4)

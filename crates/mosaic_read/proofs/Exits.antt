@@ -1,9 +1,9 @@
 -- What well-formed records say, in the words of crate mosaic (specs/Join): which border cells are land, that each way leads to an exit of the same tile,
--- and that an exit's arrow steps outside its tile.
+-- that an exit's arrow steps outside its tile, and that a border cell it steps onto stands in another tile.
 -- Assumes nothing.
 use mathlib.Core.Bool.{true}
 use mathlib.Core.List.{List}
-use mathlib.Core.Path.{_≡_, ap, ap₂, _∙_}
+use mathlib.Core.Path.{_≡_, sym, ap, ap₂, _∙_}
 use Prim.Native.Nat.{ℕ, _+_, _*_, _≤_, _<_}
 use native.Mathlib.Omega.{arith}
 use borrow.Author.Tests.{eqb-true, ne-eqb}
@@ -11,8 +11,10 @@ use Rattle.sheet.specs.Compass.{isArrow, stepOf}
 use Rattle.sheet.specs.Sheet.{stepFrom}
 use Rattle.tile.proofs.Cells.{cells-most}
 use Rattle.mosaic.specs.Layout.{heightOf, widthOf, cellsIn, bordersIn, bordersBefore, allBorders, borderTile, numberInTile, placeIn}
-use Rattle.mosaic.specs.Join.{exitAt, leadsTo}
-use Rattle.mosaic.proofs.Borders.{border-below, border-tile, border-in, tile-in, number-in}
+use Rattle.mosaic.specs.Join.{exitAt, leadsTo, onto}
+use Rattle.mosaic.proofs.Borders.{border-below, border-tile, border-in, tile-in, number-in, cell-in}
+use Rattle.mosaic.proofs.Leaving.{stays}
+use Rattle.mosaic.proofs.Onto.{onto-at}
 use Rattle.mosaic_read.specs.Records.{startOf, rowsOf, colsOf, bordersOf, wayIn, heights, widths, Leads}
 use Rattle.mosaic_read.specs.Said.{saidWay, saidCode}
 use Rattle.mosaic_read.proofs.AllRecords.{AllOk}
@@ -67,6 +69,10 @@ module _ (bytes : List ℕ) (I J : ℕ) (ok : AllOk bytes J (I * J)) (g : ℕ) (
     unfolding saidWay
     leads-way = ap₂ (λ (u a : ℕ). wayIn bytes u a) leads-tile leads-number ∙ leads .same-way
 
+  -- the border cell that it steps onto
+  abbrev ontoBy : ℕ
+  ontoBy = onto I J (heights bytes J) (widths bytes) (saidCode bytes I J) g
+
   -- an exit: it has a way, and so it is land
   module _ (x : exitAt I J (heights bytes J) (widths bytes) (saidWay bytes I J) g ≡ true) where
     exit-itself : saidWay bytes I J g ≡ b
@@ -87,3 +93,11 @@ module _ (bytes : List ℕ) (I J : ℕ) (ok : AllOk bytes J (I * J)) (g : ℕ) (
     exit-outside =
         let itself : wayIn bytes t b ≡ b = exit-itself in
         rw (← (rows-height (ok t lt)), ← (cols-width (ok t lt))) (rw itself at (leads exit-no-mark .outside))
+
+    -- a border cell that it steps onto stands in another tile
+    pub onto-another : ontoBy < allBorders I J (heights bytes J) (widths bytes) → borderTile I J (heights bytes J) (widths bytes) ontoBy ≡ t → ⊥
+    onto-another lh same =
+        let x-in = cell-in I J (heights bytes J) (widths bytes) g l in
+        let y-in = rw same at (cell-in I J (heights bytes J) (widths bytes) ontoBy lh) in
+        let steps = rw same at (sym (onto-at I J (heights bytes J) (widths bytes) (saidCode bytes I J) g lh)) in
+        omega (arith, exit-outside, stays I J (heights bytes J) (widths bytes) (saidCode bytes I J g) exit-arrow t _ _ lt x-in y-in steps)
