@@ -4,11 +4,8 @@ pub mod tiles;
 
 ghost use mathlib.Core.Path.{_≡_};
 ghost use mathlib.Core.List.{[], _∷_};
-ghost use Rattle.promise.specs.Reply.{Reply};
 ghost use Rattle.promise.specs.Reply.Reply.{reply};
-ghost use Rattle.checking.specs.Check.{CheckPromise};
-ghost use Rattle.count.specs.Count.{CountPromise, ends};
-ghost use Rattle.mend.specs.Mend.{MendPromise, ends as mend-ends};
+ghost use Rattle.drainage.specs.Calls.{CountCall, CheckCall, MendCall};
 ghost use Rattle.drainage.specs.Flat.{flat};
 use checking::CheckReply;
 use count::CountReply;
@@ -43,7 +40,7 @@ pub fn replied(number: u32, first: u64, second: u64, third: u64) -> Flat
 
 #[no_mangle]
 pub extern "C" fn drainage_count(rows: usize, cols: usize, grid: &[u8], counts: &mut [u32]) -> Flat
-    ensures { λ r. ⌜ ((s : Reply) × CountPromise rows cols (now (grid .entry)) (now (counts .entry)) (ends s (now (counts .exit))) × (r ≡ flat s)) ⌝ }
+    ensures { λ r. ⌜ CountCall rows cols (now (grid .entry)) (now (counts .entry)) r (now (counts .exit)) ⌝ }
 {
     match count::count(rows, cols, grid, counts) {
         CountReply::Done {
@@ -60,7 +57,7 @@ pub extern "C" fn drainage_count(rows: usize, cols: usize, grid: &[u8], counts: 
 
 #[no_mangle]
 pub extern "C" fn drainage_check(rows: usize, cols: usize, grid: &[u8], counts: &[u32]) -> Flat
-    ensures { λ r. ⌜ ((s : Reply) × CheckPromise rows cols (now (grid .entry)) (now (counts .entry)) s × (r ≡ flat s)) ⌝ }
+    ensures { λ r. ⌜ CheckCall rows cols (now (grid .entry)) (now (counts .entry)) r ⌝ }
 {
     match checking::check(rows, cols, grid, counts) {
         CheckReply::Done => replied(0, 0, 0, 0),
@@ -80,7 +77,7 @@ pub extern "C" fn drainage_mend(
     place: usize,
     code: u8,
 ) -> Flat
-    ensures { λ r. ⌜ ((s : Reply) × MendPromise rows cols (now (grid .entry)) (now (counts .entry)) place code (mend-ends s (now (grid .exit)) (now (counts .exit))) × (r ≡ flat s)) ⌝ }
+    ensures { λ r. ⌜ MendCall rows cols (now (grid .entry)) (now (counts .entry)) place code r (now (grid .exit)) (now (counts .exit)) ⌝ }
 {
     match mend::mend(rows, cols, grid, counts, place, code) {
         MendReply::Done => replied(0, 0, 0, 0),

@@ -1,8 +1,7 @@
 // Mosaics, for C and Rust: how long the lent buffers are, and joining border records.
 ghost use mathlib.Core.Path.{_≡_};
-ghost use Rattle.promise.specs.Reply.{Reply};
-ghost use Rattle.mosaic_join.specs.Joining.{JoinPromise, works, ends};
-ghost use Rattle.drainage.specs.Flat.{flat};
+ghost use Rattle.mosaic_join.specs.Joining.{works};
+ghost use Rattle.drainage.specs.Calls.{JoinCall};
 use crate::Flat;
 use crate::replied;
 use mosaic_join::JoinReply;
@@ -56,7 +55,7 @@ pub extern "C" fn drainage_join(
     work4: &mut [u32],
     work5: &mut [u32],
 ) -> Flat
-    ensures { λ r. ⌜ ((s : Reply) × JoinPromise «tile_rows» «tile_cols» (now (records .entry)) (now (incoming .entry)) (works (now (work1 .entry)) (now (work2 .entry)) (now (work3 .entry)) (now (work4 .entry)) (now (work5 .entry))) (ends s (now (incoming .exit)) (works (now (work1 .exit)) (now (work2 .exit)) (now (work3 .exit)) (now (work4 .exit)) (now (work5 .exit)))) × (r ≡ flat s)) ⌝ }
+    ensures { λ r. ⌜ JoinCall «tile_rows» «tile_cols» (now (records .entry)) (now (incoming .entry)) (works (now (work1 .entry)) (now (work2 .entry)) (now (work3 .entry)) (now (work4 .entry)) (now (work5 .entry))) r (now (incoming .exit)) (works (now (work1 .exit)) (now (work2 .exit)) (now (work3 .exit)) (now (work4 .exit)) (now (work5 .exit))) ⌝ }
 {
     match mosaic_join::join(
         tile_rows,

@@ -1,10 +1,6 @@
 // Tiles, for C and Rust: how long the lent buffers are, writing a border record, finishing.
-ghost use mathlib.Core.Path.{_≡_};
-ghost use Rattle.promise.specs.Reply.{Reply};
-ghost use Rattle.tile_finish.specs.Finish.{FinishPromise, ends as finish-ends};
-ghost use Rattle.tile_record.specs.Record.{RecordPromise, ends as record-ends};
 ghost use Rattle.tile.specs.Border.{borderCells};
-ghost use Rattle.drainage.specs.Flat.{flat};
+ghost use Rattle.drainage.specs.Calls.{FinishCall, RecordCall};
 ghost use Rattle.drainage.specs.Lengths.{InTile, cells};
 use crate::Flat;
 use crate::replied;
@@ -59,7 +55,7 @@ pub extern "C" fn drainage_record(
     work1: &mut [u32],
     work2: &mut [u32],
 ) -> Flat
-    ensures { λ r. ⌜ ((s : Reply) × RecordPromise rows cols «tile_row» «tile_col» (now (grid .entry)) (now (bytes .entry)) (now (work1 .entry)) (now (work2 .entry)) (record-ends s (now (bytes .exit)) (now (work1 .exit)) (now (work2 .exit))) × (r ≡ flat s)) ⌝ }
+    ensures { λ r. ⌜ RecordCall rows cols «tile_row» «tile_col» (now (grid .entry)) (now (bytes .entry)) (now (work1 .entry)) (now (work2 .entry)) r (now (bytes .exit)) (now (work1 .exit)) (now (work2 .exit)) ⌝ }
 {
     match tile_record::write_record(rows, cols, tile_row, tile_col, grid, bytes, work1, work2) {
         RecordReply::Done => replied(0, 0, 0, 0),
@@ -87,7 +83,7 @@ pub extern "C" fn drainage_finish(
     counts: &mut [u32],
     work1: &mut [u32],
 ) -> Flat
-    ensures { λ r. ⌜ ((s : Reply) × FinishPromise rows cols (now (grid .entry)) (now (incoming .entry)) (now (counts .entry)) (now (work1 .entry)) (finish-ends s (now (counts .exit)) (now (work1 .exit))) × (r ≡ flat s)) ⌝ }
+    ensures { λ r. ⌜ FinishCall rows cols (now (grid .entry)) (now (incoming .entry)) (now (counts .entry)) (now (work1 .entry)) r (now (counts .exit)) (now (work1 .exit)) ⌝ }
 {
     match tile_finish::finish(rows, cols, grid, incoming, counts, work1) {
         FinishReply::Done => replied(0, 0, 0, 0),
