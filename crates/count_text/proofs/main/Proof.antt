@@ -1,4 +1,4 @@
--- `main` is safe and ends: what is written lies within its buffer.
+-- `main` is safe and ends: what is answered and what is written lies within its buffer.
 -- Assumes the contracts of the kit's input and output.
 use mathlib.Core.Path.{sym}
 use native.Mathlib.Omega.{arith}
@@ -8,17 +8,31 @@ use borrow.Author.Needs.{needs}
 use Rattle.count_text.proofs.main.Statement.{statement}
 use Rattle.count_text.proofs.main.Tie as tie
 
-slice-aggregate-read-full : tie.Need-slice-aggregate-read-full
-slice-aggregate-read-full c = search needs
+slice-aggregate-read-text : tie.Need-slice-aggregate-read-text
+slice-aggregate-read-text c = search needs
 
-read-full-requires : tie.Need-read-full-requires
-read-full-requires c κs = search needs
+read-text-requires : tie.Need-read-text-requires
+read-text-requires c κs = search needs
+
+enum-known-n : tie.Need-enum-known-n
+enum-known-n c = search needs
+
+enum-told : tie.Need-enum-told
+enum-told c = search needs
+
+say-unread-requires : tie.Need-say-unread-requires
+say-unread-requires c κs = search needs
+
+returns : tie.Need-returns
+returns c = search needs
 
 array-share-prefix-text : tie.Need-array-share-prefix-text
-array-share-prefix-text c = search needs
+array-share-prefix-text c = rw (c .before .n .given .1) at (c .before .before .before .before .read-text .ensures)
 
 slice-aggregate-answer : tie.Need-slice-aggregate-answer
-slice-aggregate-answer c = search needs
+slice-aggregate-answer c =
+    let within = rw (c .before .before .n .given .1) at (c .before .before .before .before .before .read-text .ensures) in
+    sym (length-take-le _ _ within)
 
 slice-aggregate-answer-2 : tie.Need-slice-aggregate-answer-2
 slice-aggregate-answer-2 c = search needs
@@ -43,15 +57,25 @@ slice-aggregate-write-all c =
 write-all-requires : tie.Need-write-all-requires
 write-all-requires c κs = search needs
 
-returns : tie.Need-returns
-returns c = search needs
+say-unwritten-requires : tie.Need-say-unwritten-requires
+say-unwritten-requires c κs = search needs
+
+returns-2 : tie.Need-returns-2
+returns-2 c = search needs
+
+returns-3 : tie.Need-returns-3
+returns-3 c = search needs
 
 pub main-spec : {M : Type 1} → statement M
 main-spec =
     tie.close
     (tie.spec
-    slice-aggregate-read-full
-    read-full-requires
+    slice-aggregate-read-text
+    read-text-requires
+    enum-known-n
+    enum-told
+    say-unread-requires
+    returns
     array-share-prefix-text
     slice-aggregate-answer
     slice-aggregate-answer-2
@@ -61,4 +85,6 @@ main-spec =
     array-share-prefix-out
     slice-aggregate-write-all
     write-all-requires
-    returns)
+    say-unwritten-requires
+    returns-2
+    returns-3)
