@@ -35,10 +35,14 @@ pub record PermittedFinish (rows cols : ℕ) (grid incoming counts work : List �
   pub codes : (p : ℕ) → p < rows * cols → CodeOk grid p
   pub incoming-ok : (b : ℕ) → b < borderCells rows cols → IncomingOk rows cols grid incoming b
 
--- and of a mosaic whose records are to be joined: each of the four parts of each record is well formed, and nothing follows the last
+-- the records of a mosaic are well formed: each of the four parts of each is
+abbrev pub RecordsWellFormed : (I J : ℕ) → List ℕ → Type 0
+RecordsWellFormed I J bytes = (m : ℕ) → m < 4 * (I * J) → PartOk bytes J (m / 4) (m % 4)
+
+-- and of a mosaic whose records are to be joined: they are well formed, and nothing follows the last
 pub record PermittedJoin (I J : ℕ) (bytes incoming : List ℕ) (work : Work) : Type 0 where
   pub shape : MosaicShape I J
-  pub parts : (m : ℕ) → m < 4 * (I * J) → PartOk bytes J (m / 4) (m % 4)
+  pub parts : RecordsWellFormed I J bytes
   pub end : length bytes ≡ startOf bytes (I * J)
   pub lengths : JoinLengths I J bytes incoming work
 
