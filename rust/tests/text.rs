@@ -11,6 +11,7 @@ use common::notation;
 use common::sheets::{self, Absent, Rectangle, Relief, Sheet, GOOD_CODES};
 use common::text::{self, Reply};
 use std::env;
+use std::fs::File;
 use std::io::{ErrorKind, Read, Write};
 use std::path::{Path, PathBuf};
 use std::process::{ChildStdin, Command, Stdio};
@@ -996,6 +997,47 @@ fn texts_in_pieces() {
 #[test]
 fn input_without_end() {
     WITHOUT_END.passes();
+}
+
+/// Runs the program with this input and output, and gives what it wrote to its output, where that is a pipe, and to
+/// standard error.
+fn run_with(input: File, output: Stdio) -> (String, String) {
+    let program = program().unwrap_or_else(|missing| panic!("{missing}"));
+    let done = Command::new(program)
+        .stdin(input)
+        .stdout(output)
+        .stderr(Stdio::piped())
+        .spawn()
+        .and_then(|child| child.wait_with_output())
+        .expect("the program runs");
+    let text = |bytes| String::from_utf8(bytes).expect("it writes text");
+    (text(done.stdout), text(done.stderr))
+}
+
+#[test]
+fn a_read_that_fails_is_not_the_end_of_a_text() {
+    // A folder can be opened, and every read of it fails.
+    let folder = File::open(env!("CARGO_MANIFEST_DIR")).expect("the folder is there");
+    let (output, error) = run_with(folder, Stdio::piped());
+    assert_eq!(output, "");
+    assert_eq!(
+        error,
+        "count_text: standard input cannot be read; nothing is answered\n"
+    );
+}
+
+#[test]
+fn an_answer_that_is_lost_is_told() {
+    let sheet = Path::new(env!("CARGO_MANIFEST_DIR")).join("../examples/sheet_h.txt");
+    let full = File::options()
+        .write(true)
+        .open("/dev/full")
+        .expect("there is a device that is always full");
+    let (_, error) = run_with(File::open(sheet).expect("the sheet"), full.into());
+    assert_eq!(
+        error,
+        "count_text: the answer was not written, or not all of it\n"
+    );
 }
 
 #[test]
