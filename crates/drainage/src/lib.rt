@@ -10,6 +10,7 @@ ghost use Rattle.checking.specs.Check.{CheckPromise};
 ghost use Rattle.count.specs.Count.{CountPromise, ends};
 ghost use Rattle.mend.specs.Mend.{MendPromise, ends as mend-ends};
 ghost use Rattle.drainage.specs.Flat.{flat};
+ghost use Rattle.drainage.specs.Version.{version};
 use checking::CheckReply;
 use count::CountReply;
 use mend::MendReply;
@@ -39,6 +40,13 @@ pub fn replied(number: u32, first: u64, second: u64, third: u64) -> Flat
         value4: 0,
         value5: 0,
     }
+}
+
+#[no_mangle]
+pub extern "C" fn drainage_version() -> u32
+    ensures { λ r. ⌜ r ≡ version ⌝ }
+{
+    1
 }
 
 #[no_mangle]

@@ -4,6 +4,7 @@ ghost use Rattle.promise.specs.Reply.{Reply};
 ghost use Rattle.tile_finish.specs.Finish.{FinishPromise, ends as finish-ends};
 ghost use Rattle.tile_record.specs.Record.{RecordPromise, ends as record-ends};
 ghost use Rattle.tile.specs.Border.{borderCells};
+ghost use Rattle.tile_bytes.specs.Bytes.{recordLength};
 ghost use Rattle.drainage.specs.Flat.{flat};
 ghost use Rattle.drainage.specs.Lengths.{InTile, cells};
 use crate::Flat;
@@ -30,6 +31,16 @@ pub extern "C" fn drainage_border_cells(rows: usize, cols: usize) -> usize
 {
     match Tile::make(rows, cols) {
         TileMade::Fits(_) => border_cells(rows, cols),
+        TileMade::Outside => 0,
+    }
+}
+
+#[no_mangle]
+pub extern "C" fn drainage_record_length(rows: usize, cols: usize) -> usize
+    ensures { λ r. ⌜ InTile rows cols (recordLength rows cols) r ⌝ }
+{
+    match Tile::make(rows, cols) {
+        TileMade::Fits(_) => 17 + 7 * border_cells(rows, cols),
         TileMade::Outside => 0,
     }
 }
