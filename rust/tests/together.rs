@@ -322,11 +322,11 @@ fn any_change(draw: &mut Draw, sheet: &Sheet) -> (usize, u8) {
 fn hold_change(
     figures: &mut Figures,
     sheet: &mut Sheet,
-    counts: &mut Vec<u32>,
+    counts: &mut [u32],
     (place, code): (usize, u8),
 ) -> Result<Counted, String> {
     let (rows, cols) = (sheet.rows, sheet.cols);
-    let (before, counts_before) = (copy(sheet), counts.clone());
+    let (before, counts_before) = (copy(sheet), counts.to_vec());
     let mut changed = copy(sheet);
     changed.grid[place] = code;
     let afresh = counted(figures, &changed)?;
@@ -359,7 +359,7 @@ fn hold_changes(
     figures: &mut Figures,
     draw: &mut Draw,
     sheet: &mut Sheet,
-    counts: &mut Vec<u32>,
+    counts: &mut [u32],
 ) -> Result<(), String> {
     let changes = (60_000 / counts.len()).clamp(2, 40);
     for number in 1..=changes {
@@ -368,7 +368,7 @@ fn hold_changes(
         if number == changes || draw.one_in(8) {
             hold_check(figures, draw, sheet, counts)?;
             let cut = few_or_many_tiles(draw, sheet);
-            hold_tiles(figures, sheet, &cut, &Counted::Counts(counts.clone()))?;
+            hold_tiles(figures, sheet, &cut, &Counted::Counts(counts.to_vec()))?;
         }
     }
     Ok(())
