@@ -51,20 +51,11 @@ impl CheckReply {
 impl fmt::Display for CheckReply {
     fn fmt(&self, f: &mut fmt::Formatter) -> fmt::Result {
         match *self {
-            CheckReply::Done => write!(f, "done"),
-            CheckReply::Shape => write!(f, "refused 1: rows or columns are outside 1 to 4,096"),
-            CheckReply::Length => write!(
-                f,
-                "refused 2: a lent buffer has another length than stated"
-            ),
-            CheckReply::Code { place } => write!(
-                f,
-                "refused 3: the grid has a bad code; its first place is {place}"
-            ),
-            CheckReply::Count { place } => write!(
-                f,
-                "refused 5: a cell breaks the count equation, or an absent cell is not 0; the first such place is {place}"
-            ),
+            CheckReply::Done => f.write_str("done"),
+            CheckReply::Shape => reply::shape(f, "4,096"),
+            CheckReply::Length => reply::length(f),
+            CheckReply::Code { place } => reply::code(f, place),
+            CheckReply::Count { place } => reply::count(f, place),
         }
     }
 }
@@ -138,7 +129,8 @@ mod tests {
                 (
                     5,
                     CheckReply::Count { place: 7 },
-                    "refused 5: a cell breaks the count equation, or an absent cell is not 0; the first such place is 7",
+                    "refused 5: a cell breaks the count equation, or an absent cell is not 0; \
+                     the first such place is 7",
                 ),
             ],
         );

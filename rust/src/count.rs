@@ -67,18 +67,10 @@ impl fmt::Display for CountReply {
                 f,
                 "done: land {land}, outlets {outlets}, greatest count {greatest}"
             ),
-            CountReply::Shape => write!(f, "refused 1: rows or columns are outside 1 to 4,096"),
-            CountReply::Length => {
-                write!(f, "refused 2: a lent buffer has another length than stated")
-            }
-            CountReply::Code { place } => write!(
-                f,
-                "refused 3: the grid has a bad code; its first place is {place}"
-            ),
-            CountReply::Loop { place, length } => write!(
-                f,
-                "refused 4: the arrows form a loop of {length} cells; its smallest place is {place}"
-            ),
+            CountReply::Shape => reply::shape(f, "4,096"),
+            CountReply::Length => reply::length(f),
+            CountReply::Code { place } => reply::code(f, place),
+            CountReply::Loop { place, length } => reply::looped(f, "the arrows", place, length),
         }
     }
 }

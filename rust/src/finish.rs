@@ -59,24 +59,18 @@ impl FinishReply {
 impl fmt::Display for FinishReply {
     fn fmt(&self, f: &mut fmt::Formatter) -> fmt::Result {
         match *self {
-            FinishReply::Done => write!(f, "done"),
-            FinishReply::Shape => write!(f, "refused 1: rows or columns are outside 1 to 256"),
-            FinishReply::Length => write!(
-                f,
-                "refused 2: a lent buffer has another length than stated"
-            ),
-            FinishReply::Code { place } => write!(
-                f,
-                "refused 3: the grid has a bad code; its first place is {place}"
-            ),
+            FinishReply::Done => f.write_str("done"),
+            FinishReply::Shape => reply::shape(f, "256"),
+            FinishReply::Length => reply::length(f),
+            FinishReply::Code { place } => reply::code(f, place),
             FinishReply::Incoming { border } => write!(
                 f,
-                "refused 10: what comes in is above 4,194,304, or not 0 at an absent border cell; the first such border number is {border}"
+                "refused 10: what comes in is above 4,194,304, or not 0 at an absent border cell; \
+                 the first such border number is {border}"
             ),
-            FinishReply::Loop { place, length } => write!(
-                f,
-                "refused 4: the arrows form a loop of {length} cells within the tile; its smallest place is {place}"
-            ),
+            FinishReply::Loop { place, length } => {
+                reply::looped(f, "the arrows of the tile", place, length)
+            }
         }
     }
 }
@@ -179,12 +173,14 @@ mod tests {
                 (
                     10,
                     FinishReply::Incoming { border: 7 },
-                    "refused 10: what comes in is above 4,194,304, or not 0 at an absent border cell; the first such border number is 7",
+                    "refused 10: what comes in is above 4,194,304, or not 0 at an absent border cell; \
+                     the first such border number is 7",
                 ),
                 (
                     4,
                     looped,
-                    "refused 4: the arrows form a loop of 8 cells within the tile; its smallest place is 7",
+                    "refused 4: the arrows of the tile form a loop of 8 cells; \
+                     its smallest place is 7",
                 ),
             ],
         );

@@ -61,11 +61,10 @@ impl JoinReply {
 impl fmt::Display for JoinReply {
     fn fmt(&self, f: &mut fmt::Formatter) -> fmt::Result {
         match *self {
-            JoinReply::Done => write!(f, "done"),
-            // Only the first record begins at byte 0, which also stands for the mosaic's own numbers.
-            JoinReply::Layout { byte: 0 } => write!(
-                f,
-                "refused 9: the tile counts or the record at byte 0 do not fit the mosaic"
+            JoinReply::Done => f.write_str("done"),
+            // Byte 0 is the first record's, and stands for the mosaic's own numbers too.
+            JoinReply::Layout { byte: 0 } => f.write_str(
+                "refused 9: the tile counts or the record at byte 0 do not fit the mosaic",
             ),
             JoinReply::Layout { byte } => write!(
                 f,
@@ -73,19 +72,18 @@ impl fmt::Display for JoinReply {
             ),
             JoinReply::Record { byte } => write!(
                 f,
-                "refused 8: a border record is malformed, or a byte follows the last; the fault is at byte {byte}"
+                "refused 8: a border record is malformed, or a byte follows the last; \
+                 the fault is at byte {byte}"
             ),
-            JoinReply::Length => write!(
-                f,
-                "refused 2: a lent buffer has another length than stated"
-            ),
+            JoinReply::Length => reply::length(f),
             JoinReply::Loop {
                 tile,
                 border,
                 exits,
             } => write!(
                 f,
-                "refused 4: {exits} exits feed each other round; the first has tile number {tile}, border number {border}"
+                "refused 4: {exits} exits feed each other round; \
+                 the first has tile number {tile}, border number {border}"
             ),
         }
     }
@@ -195,7 +193,8 @@ mod tests {
                 (
                     8,
                     JoinReply::Record { byte: 7 },
-                    "refused 8: a border record is malformed, or a byte follows the last; the fault is at byte 7",
+                    "refused 8: a border record is malformed, or a byte follows the last; \
+                     the fault is at byte 7",
                 ),
                 (
                     2,
@@ -205,7 +204,8 @@ mod tests {
                 (
                     4,
                     looped,
-                    "refused 4: 9 exits feed each other round; the first has tile number 7, border number 8",
+                    "refused 4: 9 exits feed each other round; \
+                     the first has tile number 7, border number 8",
                 ),
             ],
         );

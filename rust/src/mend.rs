@@ -65,29 +65,18 @@ impl MendReply {
 impl fmt::Display for MendReply {
     fn fmt(&self, f: &mut fmt::Formatter) -> fmt::Result {
         match *self {
-            MendReply::Done => write!(f, "done"),
-            MendReply::Shape => write!(f, "refused 1: rows or columns are outside 1 to 4,096"),
-            MendReply::Length => write!(
-                f,
-                "refused 2: a lent buffer has another length than stated"
-            ),
-            MendReply::Code { place } => write!(
-                f,
-                "refused 3: the grid has a bad code; its first place is {place}"
-            ),
-            MendReply::Count { place } => write!(
-                f,
-                "refused 5: a cell breaks the count equation, or an absent cell is not 0; the first such place is {place}"
-            ),
-            MendReply::Place => write!(
-                f,
-                "refused 6: the changed cell's place is not below rows times columns"
-            ),
-            MendReply::NewCode => write!(f, "refused 7: the changed cell's new code is bad"),
-            MendReply::Loop { place, length } => write!(
-                f,
-                "refused 4: the arrows of the changed grid form a loop of {length} cells; its smallest place is {place}"
-            ),
+            MendReply::Done => f.write_str("done"),
+            MendReply::Shape => reply::shape(f, "4,096"),
+            MendReply::Length => reply::length(f),
+            MendReply::Code { place } => reply::code(f, place),
+            MendReply::Count { place } => reply::count(f, place),
+            MendReply::Place => {
+                f.write_str("refused 6: the changed cell's place is not below rows times columns")
+            }
+            MendReply::NewCode => f.write_str("refused 7: the changed cell's new code is bad"),
+            MendReply::Loop { place, length } => {
+                reply::looped(f, "the arrows of the changed grid", place, length)
+            }
         }
     }
 }
@@ -180,7 +169,8 @@ mod tests {
                 (
                     5,
                     MendReply::Count { place: 7 },
-                    "refused 5: a cell breaks the count equation, or an absent cell is not 0; the first such place is 7",
+                    "refused 5: a cell breaks the count equation, or an absent cell is not 0; \
+                     the first such place is 7",
                 ),
                 (
                     6,
@@ -195,7 +185,8 @@ mod tests {
                 (
                     4,
                     looped,
-                    "refused 4: the arrows of the changed grid form a loop of 8 cells; its smallest place is 7",
+                    "refused 4: the arrows of the changed grid form a loop of 8 cells; \
+                     its smallest place is 7",
                 ),
             ],
         );

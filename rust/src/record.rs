@@ -56,24 +56,16 @@ impl RecordReply {
 impl fmt::Display for RecordReply {
     fn fmt(&self, f: &mut fmt::Formatter) -> fmt::Result {
         match *self {
-            RecordReply::Done => write!(f, "done"),
-            RecordReply::Shape => write!(f, "refused 1: rows or columns are outside 1 to 256"),
-            RecordReply::Layout => write!(
-                f,
-                "refused 9: the tile row or the tile column is above 63"
-            ),
-            RecordReply::Length => write!(
-                f,
-                "refused 2: a lent buffer has another length than stated"
-            ),
-            RecordReply::Code { place } => write!(
-                f,
-                "refused 3: the grid has a bad code; its first place is {place}"
-            ),
-            RecordReply::Loop { place, length } => write!(
-                f,
-                "refused 4: the arrows form a loop of {length} cells within the tile; its smallest place is {place}"
-            ),
+            RecordReply::Done => f.write_str("done"),
+            RecordReply::Shape => reply::shape(f, "256"),
+            RecordReply::Layout => {
+                f.write_str("refused 9: the tile row or the tile column is above 63")
+            }
+            RecordReply::Length => reply::length(f),
+            RecordReply::Code { place } => reply::code(f, place),
+            RecordReply::Loop { place, length } => {
+                reply::looped(f, "the arrows of the tile", place, length)
+            }
         }
     }
 }
@@ -198,7 +190,8 @@ mod tests {
                 (
                     4,
                     looped,
-                    "refused 4: the arrows form a loop of 8 cells within the tile; its smallest place is 7",
+                    "refused 4: the arrows of the tile form a loop of 8 cells; \
+                     its smallest place is 7",
                 ),
             ],
         );

@@ -1,6 +1,8 @@
-//! What the replies of all operations share: how the library's flat reply gets its name.
+//! What the replies of the operations share: how the library's flat reply gets its name, and the words of the refusals
+//! that several of them have.
 
 use crate::raw;
+use std::fmt::{self, Formatter};
 
 // Places, lengths and numbers of cells come out as they go in, as `usize`; the library's have 64 bits.
 const _: () = assert!(
@@ -33,6 +35,36 @@ pub(crate) fn name<R: Named>(reply: raw::Reply) -> R {
             R::OPERATION
         )
     })
+}
+
+pub(crate) fn shape(f: &mut Formatter, most: &str) -> fmt::Result {
+    write!(f, "refused 1: rows or columns are outside 1 to {most}")
+}
+
+pub(crate) fn length(f: &mut Formatter) -> fmt::Result {
+    f.write_str("refused 2: a lent buffer has another length than stated")
+}
+
+pub(crate) fn code(f: &mut Formatter, place: usize) -> fmt::Result {
+    write!(
+        f,
+        "refused 3: the grid has a bad code; its first place is {place}"
+    )
+}
+
+pub(crate) fn looped(f: &mut Formatter, arrows: &str, place: usize, length: usize) -> fmt::Result {
+    write!(
+        f,
+        "refused 4: {arrows} form a loop of {length} cells; its smallest place is {place}"
+    )
+}
+
+pub(crate) fn count(f: &mut Formatter, place: usize) -> fmt::Result {
+    write!(
+        f,
+        "refused 5: a cell breaks the count equation, or an absent cell is not 0; \
+         the first such place is {place}"
+    )
 }
 
 #[cfg(test)]
