@@ -20,10 +20,10 @@ static void mend_and_print(size_t place, uint8_t code) {
 
     printf("place %zu to %d: ", place, code);
     drainage_reply reply = drainage_mend(ROWS, COLS, grid, CELLS, counts, CELLS, place, code);
-    if (reply.number == 0)
+    if (reply.number == DRAINAGE_DONE)
         printf("done\n");
-    else if (reply.number == 4)
-        printf("refused 4 at %" PRIu64 " length %" PRIu64 "\n", reply.value[0], reply.value[1]);
+    else if (reply.number == DRAINAGE_LOOP)
+        printf("refused %" PRIu32 " at %" PRIu64 " length %" PRIu64 "\n", reply.number, reply.value[0], reply.value[1]);
     else
         printf("refused %" PRIu32 "\n", reply.number);
 
@@ -46,6 +46,7 @@ int main(void) {
     memcpy(wrong, counts_of_h, sizeof wrong);
     wrong[4] = 7;
     drainage_reply reply = drainage_check(ROWS, COLS, case_h, CELLS, wrong, CELLS);
-    printf("check refused %" PRIu32 " at %" PRIu64 "\n", reply.number, reply.value[0]);
+    if (reply.number == DRAINAGE_COUNT)
+        printf("check refused %" PRIu32 " at %" PRIu64 "\n", reply.number, reply.value[0]);
     return 0;
 }

@@ -550,20 +550,24 @@ static void told(const char *name, size_t found, size_t expected) {
     }
 }
 
-/* The functions that tell lengths. */
-static void hold_told_lengths(void) {
+/* The functions that are lent nothing: the version, and those that tell lengths. */
+static void hold_told(void) {
+    told("drainage_version", drainage_version(), DRAINAGE_VERSION);
     for (size_t rows = 0; rows <= 258; rows++)
         for (size_t cols = 0; cols <= 258; cols++) {
             int is_tile = rows - 1 < 256 && cols - 1 < 256, is_line = rows == 1 || cols == 1;
             size_t cells = is_tile ? rows * cols : 0;
-            told("drainage_border_cells", drainage_border_cells(rows, cols),
-                 is_tile && !is_line ? 2 * rows + 2 * cols - 4 : cells);
+            size_t borders = is_tile && !is_line ? 2 * rows + 2 * cols - 4 : cells;
+            told("drainage_border_cells", drainage_border_cells(rows, cols), borders);
+            told("drainage_record_length", drainage_record_length(rows, cols), is_tile ? 17 + 7 * borders : 0);
             told("drainage_record_work1", drainage_record_work1(rows, cols), cells);
             told("drainage_record_work2", drainage_record_work2(rows, cols), cells);
             told("drainage_finish_work1", drainage_finish_work1(rows, cols), cells);
         }
     for (int i = 4; i < 9; i++) {
         told("drainage_border_cells", drainage_border_cells(tile_sides[i], 1), 0);
+        told("drainage_record_length", drainage_record_length(1, tile_sides[i]), 0);
+        told("drainage_record_length", drainage_record_length(tile_sides[i], 1), 0);
         told("drainage_record_work1", drainage_record_work1(1, tile_sides[i]), 0);
         told("drainage_record_work2", drainage_record_work2(tile_sides[i], 1), 0);
         told("drainage_finish_work1", drainage_finish_work1(1, tile_sides[i]), 0);
@@ -639,7 +643,7 @@ static void hold_greatest(void) {
 int main(void) {
     for (size_t i = 0; i <= CELLS; i++)
         rubbish[i] = (uint32_t)word();
-    hold_told_lengths();
+    hold_told();
     hold_shapes();
     hold_small_sheets();
     hold_drawn_sheets();

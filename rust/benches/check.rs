@@ -76,13 +76,10 @@ fn plain_check(rows: usize, cols: usize, grid: &[u8], counts: &[u32]) -> CheckRe
     }
     let good = |code: u8| code == 0 || code == 255 || code.is_power_of_two();
     if let Some(place) = grid.iter().position(|&code| !good(code)) {
-        let place = place as u64;
         return CheckReply::Code { place };
     }
     match first_wrong(rows, cols, grid, counts) {
-        Some(place) => CheckReply::Count {
-            place: place as u64,
-        },
+        Some(place) => CheckReply::Count { place },
         None => CheckReply::Done,
     }
 }

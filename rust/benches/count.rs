@@ -105,9 +105,7 @@ fn plain_whole(rows: usize, cols: usize, grid: &[u8], counts: &mut [u32]) -> Cou
     }
     let good = |code: u8| code == 0 || code == 255 || step_of(code).is_some();
     if let Some(place) = grid.iter().position(|&code| !good(code)) {
-        return CountReply::Code {
-            place: place as u64,
-        };
+        return CountReply::Code { place };
     }
     counts.fill(0);
     plain_count(rows, cols, grid, counts);
@@ -124,14 +122,11 @@ fn plain_whole(rows: usize, cols: usize, grid: &[u8], counts: &mut [u32]) -> Cou
                 round = round.and_then(|place| below(rows, cols, grid, place));
             }
             counts.fill(0);
-            return CountReply::Loop {
-                place: place as u64,
-                length,
-            };
+            return CountReply::Loop { place, length };
         }
         land += 1;
-        outlets += u64::from(below(rows, cols, grid, place).is_none());
-        greatest = greatest.max(u64::from(counts[place]));
+        outlets += usize::from(below(rows, cols, grid, place).is_none());
+        greatest = greatest.max(counts[place]);
     }
     CountReply::Done {
         land,

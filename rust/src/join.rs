@@ -1,10 +1,13 @@
 //! Joining the border records of a mosaic.
 
 use crate::raw;
+use crate::reply::{self, Named};
+use std::fmt;
 
 /// What joining answers. The mosaic's own numbers are looked at first (`Layout`, byte 0), then the records in turn
 /// (`Record` or `Layout`, whichever is met first), then the lengths, then loops. After every refusal but `Loop` all
 /// buffers are as they were lent.
+#[must_use = "a refusal leaves the incoming as it was lent or 0 throughout, as if nothing came in"]
 #[derive(Debug, Clone, Copy, PartialEq, Eq)]
 pub enum JoinReply {
     /// Joined: the incoming holds, for every border cell in record order, what comes in there from other tiles. The
@@ -15,30 +18,103 @@ pub enum JoinReply {
     /// rows or columns.
     Layout {
         /// The first byte of that record, 0 if it is the mosaic's own numbers.
-        byte: u64,
+        byte: usize,
     },
     /// A record is malformed, or bytes stand after the last one.
     Record {
         /// The first byte of the field at fault, or the first byte after the last record.
-        byte: u64,
+        byte: usize,
     },
     /// The incoming or a work buffer has another length than stated.
     Length,
     /// Exits feed each other round. The incoming and the work buffers hold 0 throughout.
     Loop {
         /// The smallest tile number of all exits on any loop.
-        tile: u64,
+        tile: usize,
         /// The smallest border number of such exits of that tile.
-        border: u64,
+        border: usize,
         /// The number of exits on the loop of that exit.
-        exits: u64,
+        exits: usize,
     },
+}
+
+impl JoinReply {
+    /// The paper's number of this reply: 0 is done, every other is a refusal.
+    #[must_use]
+    pub fn number(&self) -> u32 {
+        match self {
+            JoinReply::Done => 0,
+            JoinReply::Layout { .. } => 9,
+            JoinReply::Record { .. } => 8,
+            JoinReply::Length => 2,
+            JoinReply::Loop { .. } => 4,
+        }
+    }
+
+    /// Whether this is no refusal.
+    #[must_use]
+    pub fn is_done(&self) -> bool {
+        self.number() == 0
+    }
+}
+
+impl fmt::Display for JoinReply {
+    fn fmt(&self, f: &mut fmt::Formatter) -> fmt::Result {
+        match *self {
+            JoinReply::Done => f.write_str("done"),
+            // Byte 0 is the first record's, and stands for the mosaic's own numbers too.
+            JoinReply::Layout { byte: 0 } => f.write_str(
+                "refused 9: the tile counts or the record at byte 0 do not fit the mosaic",
+            ),
+            JoinReply::Layout { byte } => write!(
+                f,
+                "refused 9: the record at byte {byte} does not fit the mosaic"
+            ),
+            JoinReply::Record { byte } => write!(
+                f,
+                "refused 8: a border record is malformed, or a byte follows the last; \
+                 the fault is at byte {byte}"
+            ),
+            JoinReply::Length => reply::length(f),
+            JoinReply::Loop {
+                tile,
+                border,
+                exits,
+            } => write!(
+                f,
+                "refused 4: {exits} exits feed each other round; \
+                 the first has tile number {tile}, border number {border}"
+            ),
+        }
+    }
+}
+
+impl Named for JoinReply {
+    const FUNCTION: &'static str = "drainage_join";
+    const OPERATION: &'static str = "joining";
+
+    fn named(number: u32, value: [usize; 6]) -> Option<JoinReply> {
+        let [first, second, third, ..] = value;
+        match number {
+            0 => Some(JoinReply::Done),
+            9 => Some(JoinReply::Layout { byte: first }),
+            8 => Some(JoinReply::Record { byte: first }),
+            2 => Some(JoinReply::Length),
+            4 => Some(JoinReply::Loop {
+                tile: first,
+                border: second,
+                exits: third,
+            }),
+            _ => None,
+        }
+    }
 }
 
 /// How many work buffers joining is lent.
 pub const JOIN_WORKS: usize = 5;
 
 /// The lengths of the work buffers for joining a mosaic whose tiles have so many border cells together.
+#[must_use]
 pub fn join_work(border_cells: usize) -> [usize; JOIN_WORKS] {
     // SAFETY: nothing is lent.
     unsafe {
@@ -90,54 +166,52 @@ pub fn join(
             work5.len(),
         )
     };
-    named(reply).unwrap_or_else(|| {
-        panic!(
-            "drainage_join answered with reply {}, which joining does not have",
-            reply.number
-        )
-    })
-}
-
-/// The reply by its name, if it is one of joining.
-fn named(reply: raw::Reply) -> Option<JoinReply> {
-    let [first, second, third, ..] = reply.value;
-    match reply.number {
-        0 => Some(JoinReply::Done),
-        9 => Some(JoinReply::Layout { byte: first }),
-        8 => Some(JoinReply::Record { byte: first }),
-        2 => Some(JoinReply::Length),
-        4 => Some(JoinReply::Loop {
-            tile: first,
-            border: second,
-            exits: third,
-        }),
-        _ => None,
-    }
+    reply::name(reply)
 }
 
 #[cfg(test)]
 mod tests {
     use super::*;
-
-    fn with(number: u32) -> Option<JoinReply> {
-        let value = [7, 8, 9, 0, 0, 0];
-        named(raw::Reply { number, value })
-    }
+    use crate::reply::tests::hold;
 
     #[test]
-    fn every_number_of_joining_has_its_name_and_no_other_has_one() {
+    fn every_reply_of_joining_has_its_number_and_its_words() {
         let looped = JoinReply::Loop {
             tile: 7,
             border: 8,
             exits: 9,
         };
-        assert_eq!(with(0), Some(JoinReply::Done));
-        assert_eq!(with(9), Some(JoinReply::Layout { byte: 7 }));
-        assert_eq!(with(8), Some(JoinReply::Record { byte: 7 }));
-        assert_eq!(with(2), Some(JoinReply::Length));
-        assert_eq!(with(4), Some(looped));
-        for number in [1, 3, 5, 6, 7, 10, 11, 255, u32::MAX] {
-            assert_eq!(with(number), None);
-        }
+        hold(
+            (JoinReply::number, JoinReply::is_done),
+            &[
+                (0, JoinReply::Done, "done"),
+                (
+                    9,
+                    JoinReply::Layout { byte: 7 },
+                    "refused 9: the record at byte 7 does not fit the mosaic",
+                ),
+                (
+                    8,
+                    JoinReply::Record { byte: 7 },
+                    "refused 8: a border record is malformed, or a byte follows the last; \
+                     the fault is at byte 7",
+                ),
+                (
+                    2,
+                    JoinReply::Length,
+                    "refused 2: a lent buffer has another length than stated",
+                ),
+                (
+                    4,
+                    looped,
+                    "refused 4: 9 exits feed each other round; \
+                     the first has tile number 7, border number 8",
+                ),
+            ],
+        );
+        assert_eq!(
+            JoinReply::Layout { byte: 0 }.to_string(),
+            "refused 9: the tile counts or the record at byte 0 do not fit the mosaic"
+        );
     }
 }

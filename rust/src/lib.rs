@@ -14,6 +14,22 @@
 //! assert_eq!(counts, [1, 1, 1, 1, 8, 1, 1, 9, 1]);
 //! ```
 //!
+//! A reply must be looked at: after a refusal the counts hold what they held before, or 0 throughout, which looks like
+//! dry land. Every reply has its number in the paper and says in words what is wrong; the compiler warns where one is
+//! dropped.
+//!
+//! ```
+//! let mut counts = [7; 4];
+//! let reply = drainage::count(1, 4, &[1, 1, 1, 16], &mut counts);
+//! assert!(!reply.is_done());
+//! assert_eq!(reply.number(), 4);
+//! assert_eq!(
+//!     reply.to_string(),
+//!     "refused 4: the arrows form a loop of 2 cells; its smallest place is 2"
+//! );
+//! assert_eq!(counts, [0; 4]);
+//! ```
+//!
 //! Counts that are kept beside their grid can be checked, and mended when one cell of the grid changes:
 //!
 //! ```
@@ -74,6 +90,10 @@ mod join;
 mod mend;
 pub mod raw;
 mod record;
+mod reply;
+#[cfg(doctest)]
+mod unused;
+mod version;
 
 pub use border::border_cells;
 pub use check::{check, CheckReply};
@@ -82,3 +102,4 @@ pub use finish::{finish, finish_work, FinishReply};
 pub use join::{join, join_work, JoinReply, JOIN_WORKS};
 pub use mend::{mend, MendReply};
 pub use record::{record, record_len, record_work, RecordReply};
+pub use version::{version, VERSION};

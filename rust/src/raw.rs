@@ -2,6 +2,7 @@
 
 /// What every operation of the library returns: the paper's reply number, and the reply's values in the order of the
 /// paper's table, 0 where there is none.
+#[must_use = "a refusal leaves the counts as they were lent or 0 throughout, which looks like dry land"]
 #[repr(C)]
 #[derive(Debug, Clone, Copy, PartialEq, Eq)]
 pub struct Reply {
@@ -15,6 +16,9 @@ pub struct Reply {
 const _: () = assert!(std::mem::size_of::<Reply>() == 56 && std::mem::align_of::<Reply>() == 8);
 
 extern "C" {
+    /// The version of the library's interface; see [`version`](crate::version()).
+    pub fn drainage_version() -> u32;
+
     /// Counts a sheet; see [`count`](crate::count()).
     ///
     /// # Safety
@@ -61,6 +65,9 @@ extern "C" {
 
     /// The number of border cells of a tile; see [`border_cells`](crate::border_cells()).
     pub fn drainage_border_cells(rows: usize, cols: usize) -> usize;
+
+    /// The number of bytes of a tile's border record; see [`record_len`](crate::record_len()).
+    pub fn drainage_record_length(rows: usize, cols: usize) -> usize;
 
     /// The length of work1 for writing a record; see [`record_work`](crate::record_work()).
     pub fn drainage_record_work1(rows: usize, cols: usize) -> usize;

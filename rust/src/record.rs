@@ -1,10 +1,13 @@
 //! Writing the border record of a tile.
 
-use crate::{border_cells, raw};
+use crate::raw;
+use crate::reply::{self, Named};
+use std::fmt;
 
 /// What writing a record answers. The refusals are given in the order in which they stand here after `Done`: the first
 /// that applies. After every refusal the record is as it was lent; after every refusal but `Loop` the work buffers are
 /// too.
+#[must_use = "a refusal leaves the record as it was lent"]
 #[derive(Debug, Clone, Copy, PartialEq, Eq)]
 pub enum RecordReply {
     /// Written: the record is the tile's. The work buffers hold 0 throughout.
@@ -18,28 +21,87 @@ pub enum RecordReply {
     /// The grid holds a code that is none of the ten.
     Code {
         /// The first place with such a code.
-        place: u64,
+        place: usize,
     },
     /// The arrows form a loop within the tile. The work buffers hold 0 throughout.
     Loop {
         /// The smallest place that lies on any loop.
-        place: u64,
+        place: usize,
         /// The number of cells of that loop.
-        length: u64,
+        length: usize,
     },
+}
+
+impl RecordReply {
+    /// The paper's number of this reply: 0 is done, every other is a refusal.
+    #[must_use]
+    pub fn number(&self) -> u32 {
+        match self {
+            RecordReply::Done => 0,
+            RecordReply::Shape => 1,
+            RecordReply::Layout => 9,
+            RecordReply::Length => 2,
+            RecordReply::Code { .. } => 3,
+            RecordReply::Loop { .. } => 4,
+        }
+    }
+
+    /// Whether this is no refusal.
+    #[must_use]
+    pub fn is_done(&self) -> bool {
+        self.number() == 0
+    }
+}
+
+impl fmt::Display for RecordReply {
+    fn fmt(&self, f: &mut fmt::Formatter) -> fmt::Result {
+        match *self {
+            RecordReply::Done => f.write_str("done"),
+            RecordReply::Shape => reply::shape(f, "256"),
+            RecordReply::Layout => {
+                f.write_str("refused 9: the tile row or the tile column is above 63")
+            }
+            RecordReply::Length => reply::length(f),
+            RecordReply::Code { place } => reply::code(f, place),
+            RecordReply::Loop { place, length } => {
+                reply::looped(f, "the arrows of the tile", place, length)
+            }
+        }
+    }
+}
+
+impl Named for RecordReply {
+    const FUNCTION: &'static str = "drainage_record";
+    const OPERATION: &'static str = "writing a record";
+
+    fn named(number: u32, value: [usize; 6]) -> Option<RecordReply> {
+        let [first, second, ..] = value;
+        match number {
+            0 => Some(RecordReply::Done),
+            1 => Some(RecordReply::Shape),
+            9 => Some(RecordReply::Layout),
+            2 => Some(RecordReply::Length),
+            3 => Some(RecordReply::Code { place: first }),
+            4 => Some(RecordReply::Loop {
+                place: first,
+                length: second,
+            }),
+            _ => None,
+        }
+    }
 }
 
 /// The number of bytes of the record of a tile of `rows` by `cols` cells: 17, and 7 for each border cell. 0 where a
 /// side is not within 1 to 256.
+#[must_use]
 pub fn record_len(rows: usize, cols: usize) -> usize {
-    match border_cells(rows, cols) {
-        0 => 0,
-        cells => 17 + 7 * cells,
-    }
+    // SAFETY: nothing is lent.
+    unsafe { raw::drainage_record_length(rows, cols) }
 }
 
 /// The lengths of the two work buffers for writing the record of a tile of `rows` by `cols` cells, 0 where a side is
 /// not within 1 to 256.
+#[must_use]
 pub fn record_work(rows: usize, cols: usize) -> [usize; 2] {
     // SAFETY: nothing is lent.
     unsafe {
@@ -87,54 +149,51 @@ pub fn record(
             work2.len(),
         )
     };
-    named(reply).unwrap_or_else(|| {
-        panic!(
-            "drainage_record answered with reply {}, which writing a record does not have",
-            reply.number
-        )
-    })
-}
-
-/// The reply by its name, if it is one of writing a record.
-fn named(reply: raw::Reply) -> Option<RecordReply> {
-    let [first, second, ..] = reply.value;
-    match reply.number {
-        0 => Some(RecordReply::Done),
-        1 => Some(RecordReply::Shape),
-        9 => Some(RecordReply::Layout),
-        2 => Some(RecordReply::Length),
-        3 => Some(RecordReply::Code { place: first }),
-        4 => Some(RecordReply::Loop {
-            place: first,
-            length: second,
-        }),
-        _ => None,
-    }
+    reply::name(reply)
 }
 
 #[cfg(test)]
 mod tests {
     use super::*;
-
-    fn with(number: u32) -> Option<RecordReply> {
-        let value = [7, 8, 9, 0, 0, 0];
-        named(raw::Reply { number, value })
-    }
+    use crate::reply::tests::hold;
 
     #[test]
-    fn every_number_of_writing_a_record_has_its_name_and_no_other_has_one() {
+    fn every_reply_of_writing_a_record_has_its_number_and_its_words() {
         let looped = RecordReply::Loop {
             place: 7,
             length: 8,
         };
-        assert_eq!(with(0), Some(RecordReply::Done));
-        assert_eq!(with(1), Some(RecordReply::Shape));
-        assert_eq!(with(9), Some(RecordReply::Layout));
-        assert_eq!(with(2), Some(RecordReply::Length));
-        assert_eq!(with(3), Some(RecordReply::Code { place: 7 }));
-        assert_eq!(with(4), Some(looped));
-        for number in [5, 6, 7, 8, 10, 11, 255, u32::MAX] {
-            assert_eq!(with(number), None);
-        }
+        hold(
+            (RecordReply::number, RecordReply::is_done),
+            &[
+                (0, RecordReply::Done, "done"),
+                (
+                    1,
+                    RecordReply::Shape,
+                    "refused 1: rows or columns are outside 1 to 256",
+                ),
+                (
+                    9,
+                    RecordReply::Layout,
+                    "refused 9: the tile row or the tile column is above 63",
+                ),
+                (
+                    2,
+                    RecordReply::Length,
+                    "refused 2: a lent buffer has another length than stated",
+                ),
+                (
+                    3,
+                    RecordReply::Code { place: 7 },
+                    "refused 3: the grid has a bad code; its first place is 7",
+                ),
+                (
+                    4,
+                    looped,
+                    "refused 4: the arrows of the tile form a loop of 8 cells; \
+                     its smallest place is 7",
+                ),
+            ],
+        );
     }
 }

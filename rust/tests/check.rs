@@ -38,7 +38,7 @@ impl<'a> Call<'a> {
 }
 
 fn named(expected: &Outcome) -> CheckReply {
-    let place = expected.value[0];
+    let [place, ..] = independent::sizes(expected.value);
     match expected.number {
         0 => CheckReply::Done,
         1 => CheckReply::Shape,
@@ -215,7 +215,7 @@ const HAND_SHEETS: [(&str, &str, &str, CheckReply); 23] = [
     ("N whole", "2 255 / 255 2", "1 0 / 0 2", CheckReply::Done),
 ];
 
-const fn wrong_at(place: u64) -> CheckReply {
+const fn wrong_at(place: usize) -> CheckReply {
     CheckReply::Count { place }
 }
 
@@ -229,7 +229,7 @@ fn hand_outcome(reply: CheckReply) -> Outcome {
     };
     Outcome {
         number,
-        value: [place, 0, 0, 0, 0, 0],
+        value: independent::values(&[place]),
         grid: After::AsLent,
         counts: After::AsLent,
     }

@@ -37,19 +37,19 @@ impl<'a> Call<'a> {
 }
 
 fn named(expected: &Outcome) -> CountReply {
-    let value = expected.value;
+    let [first, second, third, ..] = independent::sizes(expected.value);
     match expected.number {
         0 => CountReply::Done {
-            land: value[0],
-            outlets: value[1],
-            greatest: value[2],
+            land: first,
+            outlets: second,
+            greatest: third as u32,
         },
         1 => CountReply::Shape,
         2 => CountReply::Length,
-        3 => CountReply::Code { place: value[0] },
+        3 => CountReply::Code { place: first },
         4 => CountReply::Loop {
-            place: value[0],
-            length: value[1],
+            place: first,
+            length: second,
         },
         other => panic!("the independent counter gives {other}, which is no reply of counting"),
     }
@@ -183,7 +183,7 @@ const HAND_SHEETS: [(&str, &str, CountReply, &str); 13] = [
     ("N whole", "2 255 / 255 2", done(2, 1, 2), "1 0 / 0 2"),
 ];
 
-const fn done(land: u64, outlets: u64, greatest: u64) -> CountReply {
+const fn done(land: usize, outlets: usize, greatest: u32) -> CountReply {
     CountReply::Done {
         land,
         outlets,
@@ -191,7 +191,7 @@ const fn done(land: u64, outlets: u64, greatest: u64) -> CountReply {
     }
 }
 
-const fn looped(place: u64, length: u64) -> CountReply {
+const fn looped(place: usize, length: usize) -> CountReply {
     CountReply::Loop { place, length }
 }
 
@@ -201,16 +201,15 @@ fn hand_outcome(reply: CountReply, counts: &str) -> Outcome {
             land,
             outlets,
             greatest,
-        } => (0, [land, outlets, greatest]),
+        } => (0, [land, outlets, greatest as usize]),
         CountReply::Shape => (1, [0; 3]),
         CountReply::Length => (2, [0; 3]),
         CountReply::Code { place } => (3, [place, 0, 0]),
         CountReply::Loop { place, length } => (4, [place, length, 0]),
     };
-    let [first, second, third] = value;
     Outcome {
         number,
-        value: [first, second, third, 0, 0, 0],
+        value: independent::values(&value),
         grid: After::AsLent,
         counts: if counts.is_empty() {
             After::AsLent

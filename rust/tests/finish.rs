@@ -40,7 +40,7 @@ impl<'a> Call<'a> {
 }
 
 fn named(expected: &Outcome<u32>) -> FinishReply {
-    let [first, length, ..] = expected.value;
+    let [first, length, ..] = independent::sizes(expected.value);
     match expected.number {
         0 => FinishReply::Done,
         1 => FinishReply::Shape,

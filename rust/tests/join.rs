@@ -26,7 +26,7 @@ struct Call<'a> {
 }
 
 fn named(expected: &Outcome<u32>) -> JoinReply {
-    let [first, second, third, ..] = expected.value;
+    let [first, second, third, ..] = independent::sizes(expected.value);
     match expected.number {
         0 => JoinReply::Done,
         8 => JoinReply::Record { byte: first },

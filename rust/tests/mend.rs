@@ -41,7 +41,7 @@ impl<'a> Call<'a> {
 type Change = (usize, u8);
 
 fn named(expected: &Outcome) -> MendReply {
-    let [place, length, ..] = expected.value;
+    let [place, length, ..] = independent::sizes(expected.value);
     match expected.number {
         0 => MendReply::Done,
         1 => MendReply::Shape,
@@ -278,7 +278,7 @@ const HAND_CHANGES: [(&str, &str, &str, Change, MendReply, &str); 17] = [
     ),
 ];
 
-const fn looped(place: u64, length: u64) -> MendReply {
+const fn looped(place: usize, length: usize) -> MendReply {
     MendReply::Loop { place, length }
 }
 
@@ -304,7 +304,7 @@ fn hand_outcome(grid: &[u8], change: Change, reply: MendReply, counts: &str) -> 
     };
     Outcome {
         number,
-        value: [place, length, 0, 0, 0, 0],
+        value: independent::values(&[place, length]),
         grid,
         counts,
     }

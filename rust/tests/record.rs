@@ -8,6 +8,7 @@ mod common;
 
 use common::draw::Draw;
 use common::group::{many, whole_tally, Group, Tally};
+use common::independent;
 use common::lent::Lent;
 use common::notation;
 use common::sheets::{
@@ -39,7 +40,7 @@ impl<'a> Call<'a> {
 }
 
 fn named(expected: &Outcome<u8>) -> RecordReply {
-    let [place, length, ..] = expected.value;
+    let [place, length, ..] = independent::sizes(expected.value);
     match expected.number {
         0 => RecordReply::Done,
         1 => RecordReply::Shape,

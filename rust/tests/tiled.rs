@@ -51,7 +51,7 @@ fn joined(cut: &Cut, records: &[u8]) -> Result<Option<Vec<u32>>, String> {
                 exits,
             },
             4,
-        ) if expected.value[..3] == [tile, border, exits] => Ok(None),
+        ) if expected.value == independent::values(&[tile, border, exits]) => Ok(None),
         _ => Err(format!("joining: {reply:?}")),
     }
 }

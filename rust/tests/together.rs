@@ -78,7 +78,7 @@ impl Display for Figures {
 #[derive(PartialEq, Debug)]
 enum Counted {
     Counts(Vec<u32>),
-    Loop { place: u64, length: u64 },
+    Loop { place: usize, length: usize },
 }
 
 fn copy(sheet: &Sheet) -> Sheet {
@@ -108,12 +108,12 @@ fn counted(figures: &mut Figures, sheet: &Sheet) -> Result<Counted, String> {
     figures.counted += cells as u64;
     let (reply, counts) = count_sheet(sheet);
     let expected = independent::count(sheet.rows, sheet.cols, &sheet.grid, cells);
-    let [first, second, third, ..] = expected.value;
+    let [first, second, third, ..] = independent::sizes(expected.value);
     let named = match expected.number {
         0 => CountReply::Done {
             land: first,
             outlets: second,
-            greatest: third,
+            greatest: third as u32,
         },
         4 => CountReply::Loop {
             place: first,
@@ -150,7 +150,7 @@ fn hold_check(
     let right = counts[spoilt];
     counts[spoilt] = right.wrapping_add(draw.pick(&[1, u32::MAX, 1 << 31, 77]));
     // Two cells show it: the spoilt one, and the one that it gives to.
-    let place = sheet.next(spoilt).map_or(spoilt, |next| next.min(spoilt)) as u64;
+    let place = sheet.next(spoilt).map_or(spoilt, |next| next.min(spoilt));
     let reply = check(rows, cols, &sheet.grid, counts);
     let to_absent = mend(rows, cols, &mut sheet.grid, counts, spoilt, 255);
     figures.checked += 2 * counts.len() as u64;
@@ -173,7 +173,7 @@ fn hold_check_of_none(figures: &mut Figures, sheet: &Sheet) -> Result<(), String
     let reply = check(sheet.rows, sheet.cols, &sheet.grid, &vec![0; cells]);
     let first = (0..cells).find(|&place| sheet.is_land(place));
     match reply {
-        CheckReply::Count { place } if Some(place as usize) == first => Ok(()),
+        CheckReply::Count { place } if Some(place) == first => Ok(()),
         _ => Err(tell(
             sheet,
             format!("checking counts of 0: {reply:?}, expected at {first:?}"),
@@ -190,7 +190,7 @@ fn few_or_many_tiles(draw: &mut Draw, sheet: &Sheet) -> Cut {
 
 /// Follows the water of a cell till it comes round to the cell again, if it does: how many cells it passes, and how
 /// often it goes from tile to tile.
-fn round(sheet: &Sheet, cut: &Cut, start: Option<&usize>) -> Option<(u64, u64)> {
+fn round(sheet: &Sheet, cut: &Cut, start: Option<&usize>) -> Option<(usize, usize)> {
     let &start = start?;
     let number_of = |sizes: &[usize], at: usize| {
         let mut end = 0;
@@ -206,10 +206,10 @@ fn round(sheet: &Sheet, cut: &Cut, start: Option<&usize>) -> Option<(u64, u64)> 
         )
     };
     let (mut place, mut length, mut exits) = (start, 0, 0);
-    while length < sheet.grid.len() as u64 {
+    while length < sheet.grid.len() {
         let next = sheet.next(place)?;
         length += 1;
-        exits += u64::from(tile(next) != tile(place));
+        exits += usize::from(tile(next) != tile(place));
         if next == start {
             return Some((length, exits));
         }
@@ -243,7 +243,7 @@ fn hold_tiles(
         match reply {
             RecordReply::Done => records.extend(bytes),
             RecordReply::Loop { place, length }
-                if round(sheet, cut, places[number].2.get(place as usize)) == Some((length, 0)) =>
+                if round(sheet, cut, places[number].2.get(place)) == Some((length, 0)) =>
             {
                 loops += 1;
             }
@@ -272,8 +272,8 @@ fn hold_tiles(
         ) => {
             // The water of the exit that is named comes round to it over so many exits.
             figures.mosaic_loops += 1;
-            let exit = places.get(tile as usize).and_then(|(rows, cols, places)| {
-                let &place = border_places(*rows, *cols).get(border as usize)?;
+            let exit = places.get(tile).and_then(|(rows, cols, places)| {
+                let &place = border_places(*rows, *cols).get(border)?;
                 places.get(place)
             });
             return match round(sheet, cut, exit) {
@@ -322,11 +322,11 @@ fn any_change(draw: &mut Draw, sheet: &Sheet) -> (usize, u8) {
 fn hold_change(
     figures: &mut Figures,
     sheet: &mut Sheet,
-    counts: &mut Vec<u32>,
+    counts: &mut [u32],
     (place, code): (usize, u8),
 ) -> Result<Counted, String> {
     let (rows, cols) = (sheet.rows, sheet.cols);
-    let (before, counts_before) = (copy(sheet), counts.clone());
+    let (before, counts_before) = (copy(sheet), counts.to_vec());
     let mut changed = copy(sheet);
     changed.grid[place] = code;
     let afresh = counted(figures, &changed)?;
@@ -359,7 +359,7 @@ fn hold_changes(
     figures: &mut Figures,
     draw: &mut Draw,
     sheet: &mut Sheet,
-    counts: &mut Vec<u32>,
+    counts: &mut [u32],
 ) -> Result<(), String> {
     let changes = (60_000 / counts.len()).clamp(2, 40);
     for number in 1..=changes {
@@ -368,7 +368,7 @@ fn hold_changes(
         if number == changes || draw.one_in(8) {
             hold_check(figures, draw, sheet, counts)?;
             let cut = few_or_many_tiles(draw, sheet);
-            hold_tiles(figures, sheet, &cut, &Counted::Counts(counts.clone()))?;
+            hold_tiles(figures, sheet, &cut, &Counted::Counts(counts.to_vec()))?;
         }
     }
     Ok(())
@@ -387,10 +387,10 @@ fn open_loops(
         let Counted::Loop { place, .. } = named else {
             break;
         };
-        let closing = std::mem::replace(&mut sheet.grid[place as usize], 255);
+        let closing = std::mem::replace(&mut sheet.grid[place], 255);
         match counted(figures, sheet)? {
             Counted::Counts(mut counts) => {
-                let again = hold_change(figures, sheet, &mut counts, (place as usize, closing))?;
+                let again = hold_change(figures, sheet, &mut counts, (place, closing))?;
                 if again != named {
                     return Err(tell(
                         sheet,

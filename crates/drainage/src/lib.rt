@@ -7,6 +7,7 @@ ghost use mathlib.Core.List.{[], _∷_};
 ghost use Rattle.promise.specs.Reply.Reply.{reply};
 ghost use Rattle.drainage.specs.Calls.{CountCall, CheckCall, MendCall};
 ghost use Rattle.drainage.specs.Flat.{flat};
+ghost use Rattle.drainage.specs.Version.{version};
 use checking::CheckReply;
 use count::CountReply;
 use mend::MendReply;
@@ -36,6 +37,13 @@ pub fn replied(number: u32, first: u64, second: u64, third: u64) -> Flat
         value4: 0,
         value5: 0,
     }
+}
+
+#[no_mangle]
+pub extern "C" fn drainage_version() -> u32
+    ensures { λ r. ⌜ r ≡ version ⌝ }
+{
+    1
 }
 
 #[no_mangle]

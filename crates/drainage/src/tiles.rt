@@ -1,5 +1,6 @@
 // Tiles, for C and Rust: how long the lent buffers are, writing a border record, finishing.
 ghost use Rattle.tile.specs.Border.{borderCells};
+ghost use Rattle.tile_bytes.specs.Bytes.{recordLength};
 ghost use Rattle.drainage.specs.Calls.{FinishCall, RecordCall};
 ghost use Rattle.drainage.specs.Lengths.{InTile, cells};
 use crate::Flat;
@@ -26,6 +27,16 @@ pub extern "C" fn drainage_border_cells(rows: usize, cols: usize) -> usize
 {
     match Tile::make(rows, cols) {
         TileMade::Fits(_) => border_cells(rows, cols),
+        TileMade::Outside => 0,
+    }
+}
+
+#[no_mangle]
+pub extern "C" fn drainage_record_length(rows: usize, cols: usize) -> usize
+    ensures { λ r. ⌜ InTile rows cols (recordLength rows cols) r ⌝ }
+{
+    match Tile::make(rows, cols) {
+        TileMade::Fits(_) => 17 + 7 * border_cells(rows, cols),
         TileMade::Outside => 0,
     }
 }

@@ -244,6 +244,11 @@ pub fn values(given: &[usize]) -> [u64; 6] {
     value
 }
 
+/// The values of a reply as the safe functions tell them.
+pub fn sizes(value: [u64; 6]) -> [usize; 6] {
+    value.map(|value| usize::try_from(value).expect("a size has 64 bits"))
+}
+
 fn refusal(number: u32, given: &[usize]) -> Outcome {
     Outcome {
         number,
