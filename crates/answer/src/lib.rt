@@ -1,4 +1,6 @@
 // The whole work of the count program: the text in, the bytes to write out.
+#![tactic(auto)]
+
 ghost use Rattle.std.specs.Prelude.{◌≡◌, length, replicate};
 ghost use Rattle.answer.specs.Answer.{Answers, Buffers};
 ghost use Rattle.answer.specs.Parts.{Lent, Tells, Writes};

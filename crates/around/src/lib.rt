@@ -1,4 +1,6 @@
 // The look-around at a cell: whether all its givers have counts, what these come to, and how many givers there are.
+#![tactic(auto)]
+
 ghost use Rattle.std.specs.Prelude.{true, ◌≡◌, ◌+◌, ◌*◌, ◌<◌, ◌≤◌, length};
 ghost use Rattle.flow.specs.Net.{sum, given};
 ghost use Rattle.sheet.specs.Compass.{is_arrow, step_of};

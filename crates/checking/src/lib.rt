@@ -1,4 +1,6 @@
 // Checking the counts of a whole sheet: each cell is held to the count equation. No cell on a loop can satisfy it, so nothing else is tried.
+#![tactic(auto)]
+
 ghost use Rattle.std.specs.Prelude.{◌≡◌, ◌+◌, ◌*◌, ◌<◌};
 ghost use Rattle.promise.specs.First.{Finds};
 ghost use Rattle.sheet.specs.Leaves.{Laid, Cell};

@@ -20,15 +20,15 @@ use Rattle.loops.proofs.First.{left_first}
 use Rattle.loops.proofs.Left.{left_not}
 
 module _ (rows cols : ℕ) (g c : List ℕ) (long : length g ≡ rows * cols) (s : Counting rows cols g [] c (rows * cols)) where
-  pub answers-loop : {p : ℕ} → FirstNot (length g) (NotLeft g c) p → {len : ℕ} {d : List ℕ} → len ≡ loop_length (rows * cols) (dest_of rows cols g) p → d ≡ replicate (length c) 0
+  pub answers_loop : {p : ℕ} → FirstNot (length g) (NotLeft g c) p → {len : ℕ} {d : List ℕ} → len ≡ loop_length (rows * cols) (dest_of rows cols g) p → d ≡ replicate (length c) 0
       → Answered rows cols g (ends (reply 4 (p ∷ len ∷ [])) d)
-  answers-loop {p} first {len} {d} e z =
+  answers_loop {p} first {len} {d} e z =
       refused_with (record { place = p; len = len }) (rw e (left_first rows cols g [] c long s first)) (ap (λ (x : List ℕ). ends (reply 4 (p ∷ len ∷ [])) x) (z ∙ ap (λ (n : ℕ). replicate n 0) s.long))
 
   -- none is left: all is counted
-  pub answers-done : ((q : ℕ) → q < length g → NotLeft g c q) → {land out greatest : ℕ} → land ≡ number (length g) (land_at g) → found rows cols g c ≡ out
+  pub answers_done : ((q : ℕ) → q < length g → NotLeft g c q) → {land out greatest : ℕ} → land ≡ number (length g) (land_at g) → found rows cols g c ≡ out
       → greatest ≡ greatest_below (length c) (count_at c) → Answered rows cols g (ends (reply 0 (land ∷ out ∷ greatest ∷ [])) c)
-  answers-done none {land} {out} {greatest} a b d =
+  answers_done none {land} {out} {greatest} a b d =
       let (free, counts) = none_left rows cols g [] c long s (λ p l. left_not g c p (none p (omega arith))) in
       met_none (λ v first. first_loop_free free first) record {
         long = s.long;

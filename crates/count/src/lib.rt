@@ -1,5 +1,7 @@
 // Counting a whole sheet by the look-around method: scan the cells by place, write a cell that has no giver, and go down from it while all
 // givers have counts. What then holds 0 on land lies on a loop.
+#![tactic(auto)]
+
 ghost use Rattle.std.specs.Prelude.{[], ◌≡◌, ◌*◌};
 ghost use Rattle.sheet.specs.Shape.{SheetShape};
 ghost use Rattle.count.specs.Count.{CountPromise, CountCells, Answered, count_reply, ends};

@@ -1,4 +1,6 @@
 // What C and Rust call: one thin function for each operation, with the operation's promise. include/drainage.h declares the same for C.
+#![tactic(auto)]
+
 pub mod mosaics;
 pub mod tiles;
 

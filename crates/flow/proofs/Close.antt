@@ -47,11 +47,11 @@ module _ (n t : ℕ) (to w to' w' : ℕ → ℕ) (out : (p : ℕ) → n ≤ p �
   -- and walking round from t finds the first loop: its smallest cell, and its length
   pub closes_first : NoLoop n to' → (k : ℕ) → steps to (suc k) t ≡ t → ((i : ℕ) → i < k → steps to (suc i) t ≡ t → ⊥)
       → (p i : ℕ) → i < suc k → steps to i t ≡ p → ((j : ℕ) → j < suc k → p ≤ steps to j t) → FirstLoop n to p (suc k)
-  closes_first free k back first p i li is-p least =
+  closes_first free k back first p i li is_p least =
       let (down, up) = met to k t back i li in
-      let tp : Down to t p = rw is-p at down in
-      let pt : Down to p t = rw is-p at up in
-      let lp : p < n = rw is-p at (inside_at n to out t (let h : i ≤ suc k = omega arith in h) (omega arith)) in
+      let tp : Down to t p = rw is_p at down in
+      let pt : Down to p t = rw is_p at up in
+      let lp : p < n = rw is_p at (inside_at n to out t (let h : i ≤ suc k = omega arith in h) (omega arith)) in
       record {
         here = (lp, down_trans to p t p pt tp);
         smallest = λ q lq o.

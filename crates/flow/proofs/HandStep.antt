@@ -14,22 +14,22 @@ use Rattle.flow.proofs.Cut.{incoming}
 use Rattle.flow.proofs.Back.{loop_giver}
 use Rattle.flow.proofs.HandOn.{Holds, GiversDone, LoopsOpen, open_cells, open_givers, open_sum}
 
-module _ (n : ℕ) (to : ℕ → ℕ) (done next : ℕ → Bool) (t : ℕ) (lt : t < n) (open_t : done t ≡ false) (next-t : next t ≡ true)
-    (next-other : (q : ℕ) → q < n → (q ≡ t → ⊥) → next q ≡ done q) where
+module _ (n : ℕ) (to : ℕ → ℕ) (done next : ℕ → Bool) (t : ℕ) (lt : t < n) (open_t : done t ≡ false) (next_t : next t ≡ true)
+    (next_other : (q : ℕ) → q < n → (q ≡ t → ⊥) → next q ≡ done q) where
   -- one cell fewer is open: the measure of the method
   pub open_cells_fall : suc (open_cells n next) ≡ open_cells n done
   unfolding open_cells
   open_cells_fall =
-      let r : sum n (λ q. on (not (next q)) 1) + on (not (done t)) 1 ≡ sum n (λ q. on (not (done q)) 1) + on (not (next t)) 1 = sum_change lt (λ q lq h. rw (next-other q lq h)) in
-      omega (arith, rw (open_t, next-t) at r)
+      let r : sum n (λ q. on (not (next q)) 1) + on (not (done t)) 1 ≡ sum n (λ q. on (not (done q)) 1) + on (not (next t)) 1 = sum_change lt (λ q lq h. rw (next_other q lq h)) in
+      omega (arith, rw (open_t, next_t) at r)
 
   -- the cell that t gives to has one open giver fewer
   pub open_givers_fall : (p : ℕ) → open_givers n to next p + on (eqb (to t) p) 1 ≡ open_givers n to done p
   unfolding open_givers
   open_givers_fall p =
       let r : sum n (λ q. on (not (next q) && eqb (to q) p) 1) + on (not (done t) && eqb (to t) p) 1 ≡ sum n (λ q. on (not (done q) && eqb (to q) p) 1) + on (not (next t) && eqb (to t) p) 1 =
-      sum_change lt (λ q lq h. rw (next-other q lq h)) in
-      omega (arith, rw (open_t, next-t) at r)
+      sum_change lt (λ q lq h. rw (next_other q lq h)) in
+      omega (arith, rw (open_t, next_t) at r)
 
   module _ (givers : (q : ℕ) → q < n → to q ≡ t → done q ≡ true) where
     -- t's arrow does not end at t
@@ -38,10 +38,10 @@ module _ (n : ℕ) (to : ℕ → ℕ) (done next : ℕ → Bool) (t : ℕ) (lt :
 
     pub givers_done_on : GiversDone n to done → GiversDone n to next
     givers_done_on s p q l lq e h = elim (same q t) [
-      | inl eq ↦ ap next eq ∙ next-t
-      | inr eq ↦ next-other q lq eq ∙ elim (same p t) [
+      | inl eq ↦ ap next eq ∙ next_t
+      | inr eq ↦ next_other q lq eq ∙ elim (same p t) [
         | inl ep ↦ givers q lq (e ∙ ep)
-        | inr ep ↦ s p q l lq e (sym (next-other p l ep) ∙ h)
+        | inr ep ↦ s p q l lq e (sym (next_other p l ep) ∙ h)
       ]
     ]
 
@@ -49,7 +49,7 @@ module _ (n : ℕ) (to : ℕ → ℕ) (done next : ℕ → Bool) (t : ℕ) (lt :
     pub loops_open_on : ((p : ℕ) → n ≤ p → n ≤ to p) → LoopsOpen n to done → LoopsOpen n to next
     loops_open_on out s p o = elim (same p t) [
       | inl e ↦ (let (q, oq, g) = loop_giver n to out p o in absurd (true≢false (sym (givers q oq.0 (g ∙ e)) ∙ s q oq)))
-      | inr e ↦ next-other p o.0 e ∙ s p o
+      | inr e ↦ next_other p o.0 e ∙ s p o
     ]
 
     -- t hands what it holds on to the cell that its water goes to
@@ -63,8 +63,8 @@ module _ (n : ℕ) (to : ℕ → ℕ) (done next : ℕ → Bool) (t : ℕ) (lt :
       came p l =
           let dt : d t ≡ c t = other t lt (λ e. not_self (sym e)) in
           let r : sum n (λ q. on (next q && eqb (to q) p) (d q)) + on (done t && eqb (to t) p) (c t) ≡ sum n (λ q. on (done q && eqb (to q) p) (c q)) + on (next t && eqb (to t) p) (d t) =
-          sum_change lt (λ q lq h. rw (next-other q lq h) (elim (test (done q)) [ inl e ↦ rw (e, same_done q lq e) | inr e ↦ rw e ])) in
-          omega (arith, rw (open_t, next-t, dt) at r)
+          sum_change lt (λ q lq h. rw (next_other q lq h) (elim (test (done q)) [ inl e ↦ rw (e, same_done q lq e) | inr e ↦ rw e ])) in
+          omega (arith, rw (open_t, next_t, dt) at r)
 
       -- each cell still holds its weight and what was given
       pub hand_on : (w : ℕ → ℕ) → Holds n to w c done → Holds n to w d next
@@ -79,8 +79,8 @@ module _ (n : ℕ) (to : ℕ → ℕ) (done next : ℕ → Bool) (t : ℕ) (lt :
       pub open_sum_falls : open_sum n d next ≤ open_sum n c done
       unfolding open_sum
       open_sum_falls =
-          let r : sum n (λ q. on (not (next q)) (c q)) + on (not (done t)) (c t) ≡ sum n (λ q. on (not (done q)) (c q)) + on (not (next t)) (c t) = sum_change lt (λ q lq h. rw (next-other q lq h)) in
-          let s : sum n (λ q. on (not (next q)) (c q)) + c t ≡ sum n (λ q. on (not (done q)) (c q)) + 0 = rw (open_t, next-t) at r in
+          let r : sum n (λ q. on (not (next q)) (c q)) + on (not (done t)) (c t) ≡ sum n (λ q. on (not (done q)) (c q)) + on (not (next t)) (c t) = sum_change lt (λ q lq h. rw (next_other q lq h)) in
+          let s : sum n (λ q. on (not (next q)) (c q)) + c t ≡ sum n (λ q. on (not (done q)) (c q)) + 0 = rw (open_t, next_t) at r in
           elim (below (to t) n) [
             | inl l ↦
                 let u : sum n (λ q. on (not (next q)) (d q)) + on (not (next (to t))) (c (to t)) ≡ sum n (λ q. on (not (next q)) (c q)) + on (not (next (to t))) (d (to t)) =

@@ -137,9 +137,9 @@ module _ (M n : ℕ) (to : ℕ → ℕ) (cut : ℕ → Bool) (at step ways : ℕ
 
   -- nothing comes in at a cell that is no border cell
   pub none_in : (J : ℕ → ℕ) (p : ℕ) → p < n → ((h : ℕ) → h < M → at h ≡ p → ⊥) → sum M (λ g. on (cut (at g) && eqb (to (at g)) p) (J g)) ≡ 0
-  none_in J p lp no-border = sum_none (λ g l. elim (test (cut (at g))) [
+  none_in J p lp no_border = sum_none (λ g l. elim (test (cut (at g))) [
     | inl c ↦ rw c (on_ne (to (at g)) p (J g) (λ e. elim (below (step g) M) [
-      | inl b ↦ no-border (step g) b (sym (s.step_on g l c b) ∙ e)
+      | inl b ↦ no_border (step g) b (sym (s.step_on g l c b) ∙ e)
       | inr b ↦ omega (arith, s.step_off g l c b)
     ]))
     | inr c ↦ rw c

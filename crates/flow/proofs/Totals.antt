@@ -77,11 +77,11 @@ module _ (n : ℕ) (to : ℕ → ℕ) (cut : ℕ → Bool) where
             | inr ce ↦ rw ce (omega (arith, none_fed (λ r. on (cut r) (c r)) e l ce))
           ]
 
-      module _ (T : ℕ → ℕ) (hT : Counts n (xto n to cut) (λ e. on (cut e) (d e)) T) where
+      module _ (T : ℕ → ℕ) (told_counts : Counts n (xto n to cut) (λ e. on (cut e) (d e)) T) where
         -- so an exit's total is the whole net's count there
         pub totals : (e : ℕ) → e < n → cut e ≡ true → T e ≡ c e
         totals e l ce =
-            counts_unique n (xto n to cut) (xto_out n to cut out) ((exits_free n to cut out (kept_free n to cut out free)).0 free) (λ e. on (cut e) (d e)) T (λ e. on (cut e) (c e)) hT exits_counts e l
+            counts_unique n (xto n to cut) (xto_out n to cut out) ((exits_free n to cut out (kept_free n to cut out free)).0 free) (λ e. on (cut e) (d e)) T (λ e. on (cut e) (c e)) told_counts exits_counts e l
             ∙ on_true (c e) ce
 
         -- finished tiles hold the whole net's counts

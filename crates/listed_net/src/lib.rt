@@ -1,5 +1,7 @@
 // Counts on a net that is given as a list: the water of cell p goes to cell to[p], and to no cell where to[p] is not below the length. Each
 // cell waits for its givers; one that waits for none hands on what it holds. What then waits lies on a loop.
+#![tactic(auto)]
+
 pub mod method;
 
 ghost use Rattle.listed_net.specs.Net.{NetLent, NetPromise};

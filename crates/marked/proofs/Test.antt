@@ -48,7 +48,7 @@ answerb r (counted counts land out greatest) =
     && (eqb (outlets r.rows r.cols r.grid) out
     && eqb (greatest_count r.rows r.cols counts) greatest)))))
 answerb r (loop place len) = codesb (r.rows * r.cols) r.grid && loopb r.rows r.cols r.grid place len
-answerb r (code_though_loop place loop-place len) = badb (r.rows * r.cols) r.grid place && loopb r.rows r.cols r.grid loop-place len
+answerb r (code_though_loop place loop_place len) = badb (r.rows * r.cols) r.grid place && loopb r.rows r.cols r.grid loop_place len
 answerb r (cut_counted heights widths totals counts) =
     codesb (r.rows * r.cols) r.grid && (cutb r heights widths && joinedb (length heights) (length widths) (sides heights) (sides widths) r.grid totals counts)
 answerb r (cut_loop heights widths tile border exits) =
@@ -119,9 +119,9 @@ answer_says r long (counted counts land out greatest) e =
 answer_says r long (loop place len) e =
     let (a, b) = both (codesb (r.rows * r.cols) r.grid) _ e in
     record { codes = codes_say (r.rows * r.cols) r.grid a; first = loop_says r.rows r.cols r.grid place len long b }
-answer_says r long (code_though_loop place loop-place len) e =
+answer_says r long (code_though_loop place loop_place len) e =
     let (a, b) = both (badb (r.rows * r.cols) r.grid place) _ e in
-    record { bad = bad_says (r.rows * r.cols) r.grid place a; first = loop_says r.rows r.cols r.grid loop-place len long b }
+    record { bad = bad_says (r.rows * r.cols) r.grid place a; first = loop_says r.rows r.cols r.grid loop_place len long b }
 answer_says r long (cut_counted heights widths totals counts) e =
     let (a, x) = both (codesb (r.rows * r.cols) r.grid) _ e in
     let (b, c) = both (cutb r heights widths) _ x in

@@ -16,7 +16,7 @@ pub data Answer : Type 0 where
   -- refused with 4: the smallest place on any loop, and that loop's length
   loop : (place len : ℕ) → Answer
   -- refused with 3 at a place, though there is a loop, of this smallest place and this length
-  code_though_loop : (place loop-place len : ℕ) → Answer
+  code_though_loop : (place loop_place len : ℕ) → Answer
   -- cut into tiles of these heights and widths, done: the exits' totals in record order, 0 at border cells that are no exits, and the counts by place
   cut_counted : (heights widths totals counts : List ℕ) → Answer
   -- cut into tiles of these heights and widths, each without a loop, joining refused with 4: tile and border number of the first exit on any loop, and how many
@@ -88,9 +88,9 @@ pub record Loops (r : Row) (place len : ℕ) : Type 0 where
   pub codes : CodesOk r
   pub first : FirstSheetLoop r.rows r.cols r.grid place len
 
-pub record BadThoughLoop (r : Row) (place loop-place len : ℕ) : Type 0 where
+pub record BadThoughLoop (r : Row) (place loop_place len : ℕ) : Type 0 where
   pub bad : FirstNot (r.rows * r.cols) (CodeOk r.grid) place
-  pub first : FirstSheetLoop r.rows r.cols r.grid loop-place len
+  pub first : FirstSheetLoop r.rows r.cols r.grid loop_place len
 
 -- the height of each tile row, or the width of each tile column
 abbrev pub sides : List ℕ → ℕ → ℕ
@@ -114,7 +114,7 @@ pub record CutLoops (r : Row) (heights widths : List ℕ) (tile border exits : �
 abbrev pub Answers : Row → Answer → Type 0
 Answers r (counted counts land out greatest) = Counted r counts land out greatest
 Answers r (loop place len) = Loops r place len
-Answers r (code_though_loop place loop-place len) = BadThoughLoop r place loop-place len
+Answers r (code_though_loop place loop_place len) = BadThoughLoop r place loop_place len
 Answers r (cut_counted heights widths totals counts) = CutCounted r heights widths totals counts
 Answers r (cut_loop heights widths tile border exits) = CutLoops r heights widths tile border exits
 

@@ -22,12 +22,12 @@ use Rattle.sheet.specs.Sheet.{CountsOf}
 
 module _ (rows cols : ℕ) (g c : List ℕ) (t x : ℕ) where
   -- what checking refuses, mending refuses with the same reply, and nothing is changed
-  pub refuses-too : {said : Reply} → CheckPromise rows cols g c said → (number_of said ≡ 0 → ⊥) → MendPromise rows cols g c t x (ends said g c)
-  refuses-too (refused n e) h = refused n (ap (λ (r : Reply). ends r g c) e)
-  refuses-too (met a (refused n e)) h = met a (refused n (ap (λ (r : Reply). ends r g c) e))
-  refuses-too (met a (met b (refused_at p f e))) h = met a (met b (refused_at p f (ap (λ (r : Reply). ends r g c) e)))
-  refuses-too (met a (met b (met_all k (refused_at p f e)))) h = met a (met b (met_all k (refused_at p f (ap (λ (r : Reply). ends r g c) e))))
-  refuses-too (met a (met b (met_all k (met_all l e)))) h = absurd (h (ap number_of e))
+  pub refuses_too : {said : Reply} → CheckPromise rows cols g c said → (number_of said ≡ 0 → ⊥) → MendPromise rows cols g c t x (ends said g c)
+  refuses_too (refused n e) h = refused n (ap (λ (r : Reply). ends r g c) e)
+  refuses_too (met a (refused n e)) h = met a (refused n (ap (λ (r : Reply). ends r g c) e))
+  refuses_too (met a (met b (refused_at p f e))) h = met a (met b (refused_at p f (ap (λ (r : Reply). ends r g c) e)))
+  refuses_too (met a (met b (met_all k (refused_at p f e)))) h = met a (met b (met_all k (refused_at p f (ap (λ (r : Reply). ends r g c) e))))
+  refuses_too (met a (met b (met_all k (met_all l e)))) h = absurd (h (ap number_of e))
 
   module _ (promise : CheckPromise rows cols g c (reply 0 [])) where
     checked : Right rows cols g c
@@ -37,20 +37,20 @@ module _ (rows cols : ℕ) (g c : List ℕ) (t x : ℕ) where
     pub goes_on : {e : MendOutcome} → MendCell rows cols g c t x e → MendPromise rows cols g c t x e
     goes_on rest = met checked.shape (met checked.lengths (met_all checked.codes (met_all checked.equation rest)))
 
-    pub checked-laid : Laid rows cols g c
-    checked-laid = record {
+    pub checked_laid : Laid rows cols g c
+    checked_laid = record {
       rows_fit = checked.shape.rows_most;
       cols_fit = checked.shape.cols_most;
       grid_long = checked.lengths.grid_long;
       counts_long = checked.lengths.counts_long;
     }
 
-    pub checked-counts : SheetCounts rows cols g c
-    checked-counts = checked.equation
+    pub checked_counts : SheetCounts rows cols g c
+    checked_counts = checked.equation
 
   -- the code is already there: nothing is to be done
-  pub answers-same : Laid rows cols g c → SheetCounts rows cols g c → get_or g t 0 ≡ x → MendChange rows cols g c t x (ends (reply 0 []) g c)
-  answers-same laid eq there =
+  pub answers_same : Laid rows cols g c → SheetCounts rows cols g c → get_or g t 0 ≡ x → MendChange rows cols g c t x (ends (reply 0 []) g c)
+  answers_same laid eq there =
       let stays : set g t x ≡ g = ap (λ (y : ℕ). set g t y) (sym there) ∙ set-get_or g t 0 in
       met_none (λ v first. first_loop_free (counts_no_loop rows cols g laid.grid_long c eq) (rw stays at first)) record {
         stored = sym stays;
@@ -60,33 +60,33 @@ module _ (rows cols : ℕ) (g c : List ℕ) (t x : ℕ) where
       }
 
   -- the new code would close a loop
-  pub answers-loop : {h : List ℕ} {p len : ℕ} → FirstSheetLoop rows cols (set g t x) p len → h ≡ g → MendChange rows cols g c t x (ends (reply 4 (p ∷ len ∷ [])) h c)
-  answers-loop {h} {p} {len} s e = refused_with (record { place = p; len = len }) s (ap (λ (y : List ℕ). ends (reply 4 (p ∷ len ∷ [])) y c) e)
+  pub answers_loop : {h : List ℕ} {p len : ℕ} → FirstSheetLoop rows cols (set g t x) p len → h ≡ g → MendChange rows cols g c t x (ends (reply 4 (p ∷ len ∷ [])) h c)
+  answers_loop {h} {p} {len} s e = refused_with (record { place = p; len = len }) s (ap (λ (y : List ℕ). ends (reply 4 (p ∷ len ∷ [])) y c) e)
 
   -- it closes none: the look ahead left the grid h as it was, taking out left h' and d, putting in h'' and d'
   module _ {h h' : List ℕ} (free : SheetNoLoop rows cols (set g t x)) (e : h ≡ g) (e' : h' ≡ set h t 255) where
     out : h' ≡ set g t 255
     out = e' ∙ ap (λ (y : List ℕ). set y t 255) e
 
-    then-in : set h' t x ≡ set g t x
-    then-in = ap (λ (y : List ℕ). set y t x) out ∙ set-set g t 255 x
+    then_in : set h' t x ≡ set g t x
+    then_in = ap (λ (y : List ℕ). set y t x) out ∙ set-set g t 255 x
 
-    pub put-ready : {d : List ℕ} → t < rows * cols → Laid rows cols g c → CountsOf rows cols (set h t 255) d
+    pub put_ready : {d : List ℕ} → t < rows * cols → Laid rows cols g c → CountsOf rows cols (set h t 255) d
         → Laid rows cols h' d × ((t < rows * cols) × (SheetCounts rows cols (set h' t 255) d × SheetNoLoop rows cols (set h' t x)))
-    put-ready lt laid s = (
+    put_ready lt laid s = (
       record {
         rows_fit = laid.rows_fit;
         cols_fit = laid.cols_fit;
         grid_long = ap length out ∙ changed_long rows cols g t 255 lt laid.grid_long;
         counts_long = s.long;
       },
-      (lt, (rw (out, set-set g t 255 255, ← e) s.equation, rw then-in free)),
+      (lt, (rw (out, set-set g t 255 255, ← e) s.equation, rw then_in free)),
     )
 
-    pub answers-mended : {h'' d' : List ℕ} → h'' ≡ set h' t x → CountsOf rows cols (set h' t x) d' → MendChange rows cols g c t x (ends (reply 0 []) h'' d')
-    answers-mended e'' s = met_none (λ v first. first_loop_free free first) record {
-      stored = e'' ∙ then-in;
+    pub answers_mended : {h'' d' : List ℕ} → h'' ≡ set h' t x → CountsOf rows cols (set h' t x) d' → MendChange rows cols g c t x (ends (reply 0 []) h'' d')
+    answers_mended e'' s = met_none (λ v first. first_loop_free free first) record {
+      stored = e'' ∙ then_in;
       long = s.long;
-      equation = rw then-in at s.equation;
+      equation = rw then_in at s.equation;
       said_is = refl;
     }

@@ -1,5 +1,7 @@
 // Mending the counts of a sheet after one changed cell: the lent sheet is checked, the water of the changed cell is followed once to see
 // whether it comes back, and then the cell is taken out of the counts with its old code and put in with its new one.
+#![tactic(auto)]
+
 ghost use Rattle.std.specs.Prelude.{◌*◌, ◌<◌};
 ghost use Rattle.sheet.specs.Leaves.{Laid};
 ghost use Rattle.sheet.specs.Sheet.{SheetCounts};

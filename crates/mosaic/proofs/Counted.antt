@@ -38,9 +38,9 @@ cells_fit I J hs ws fits =
     omega (arith, fits.tiles_most, mul-mul-mul_comm I 256 J 256)
 
 module _ (I J : ℕ) (hs ws : ℕ → ℕ) (fits : Fits I J hs ws) (sheet : List ℕ) (tiles : ℕ → List ℕ) (cut : Cut I J hs ws sheet tiles)
-    (sheet-free : SheetNoLoop (sheet_rows I hs) (sheet_cols J ws) sheet) (counts : ℕ → ℕ → ℕ) (count way code : ℕ → ℕ) (tells : Tells I J hs ws tiles counts count way code)
-    (c : ℕ → ℕ) (sheet-counts : Counts (sheet_rows I hs * sheet_cols J ws) (dest_of (sheet_rows I hs) (sheet_cols J ws) sheet) (unit sheet) c)
-    (tile-counts : (t : ℕ) → t < I * J → Counts (cells_in J hs ws t) (dest_of (height_of J hs t) (width_of J ws t) (tiles t)) (unit (tiles t)) (counts t))
+    (sheet_free : SheetNoLoop (sheet_rows I hs) (sheet_cols J ws) sheet) (counts : ℕ → ℕ → ℕ) (count way code : ℕ → ℕ) (tells : Tells I J hs ws tiles counts count way code)
+    (c : ℕ → ℕ) (sheet_counts : Counts (sheet_rows I hs * sheet_cols J ws) (dest_of (sheet_rows I hs) (sheet_cols J ws) sheet) (unit sheet) c)
+    (tile_counts : (t : ℕ) → t < I * J → Counts (cells_in J hs ws t) (dest_of (height_of J hs t) (width_of J ws t) (tiles t)) (unit (tiles t)) (counts t))
     (T : ℕ → ℕ) (totals : Totals I J hs ws count way code T) where
   -- the cells and the net of the sheet, and which of its arrows are cut; the nets of the tiles; the border cells
   abbrev N : ℕ
@@ -66,7 +66,7 @@ module _ (I J : ℕ) (hs ws : ℕ → ℕ) (fits : Fits I J hs ws) (sheet : List
   cell g = place_in J hs ws (border_tile I J hs ws g) (number_in_tile I J hs ws g)
 
   free : TilesFree I J hs ws tiles
-  free = tile_free I J hs ws fits sheet tiles cut sheet-free
+  free = tile_free I J hs ws fits sheet tiles cut sheet_free
 
   out : (p : ℕ) → N ≤ p → N ≤ to p
   out = dest_beyond (sheet_rows I hs) (sheet_cols J ws) sheet cut.sheet_long
@@ -89,11 +89,11 @@ module _ (I J : ℕ) (hs ws : ℕ → ℕ) (fits : Fits I J hs ws) (sheet : List
   tiled_incoming h l =
       comes_to h l
       ∙ came_count N to C (I * J) (cells_in J hs ws) ton (sheet_place I J hs ws) M (feeds I J hs ws way code) (border_tile I J hs ws) cell
-      (whole I J hs ws fits sheet tiles cut counts count way code free tells) sheet-free (unit sheet) c sheet-counts (λ t. unit (tiles t)) counts same_unit tile-counts T joined (at h)
+      (whole I J hs ws fits sheet tiles cut counts count way code free tells) sheet_free (unit sheet) c sheet_counts (λ t. unit (tiles t)) counts same_unit tile_counts T joined (at h)
 
   -- and no more than is counted there
   pub comes_bound : (h : ℕ) → h < M → comes_in I J hs ws way code T h ≤ c (at h)
-  comes_bound h l = omega (arith, tiled_incoming h l, incoming_le N to C (unit sheet) c sheet-counts (at h) (at_below I J hs ws h l))
+  comes_bound h l = omega (arith, tiled_incoming h l, incoming_le N to C (unit sheet) c sheet_counts (at h) (at_below I J hs ws h l))
 
   -- so finishing takes it
   pub comes_fit : (h : ℕ) → h < M → comes_in I J hs ws way code T h ≤ 4194304
@@ -101,7 +101,7 @@ module _ (I J : ℕ) (hs ws : ℕ → ℕ) (fits : Fits I J hs ws) (sheet : List
       omega (
         arith,
         comes_bound h l,
-        counts_bound N to out sheet-free (unit sheet) c sheet-counts (at h) (at_below I J hs ws h l),
+        counts_bound N to out sheet_free (unit sheet) c sheet_counts (at h) (at_below I J hs ws h l),
         sum_mono {n = N} {f = unit sheet} {g = λ q. 1} (λ q lq. on_le (land_at sheet q) 1),
         sum_ones N,
         cells_fit I J hs ws fits,
@@ -129,5 +129,5 @@ module _ (I J : ℕ) (hs ws : ℕ → ℕ) (fits : Fits I J hs ws) (sheet : List
       → (t x : ℕ) → t < I * J → x < cells_in J hs ws t → f t x ≡ c (sheet_place I J hs ws t x)
   tiled_counts f finishes =
       mosaic N to C (I * J) (cells_in J hs ws) ton (sheet_place I J hs ws) M (feeds I J hs ws way code) (border_tile I J hs ws) cell
-      (whole I J hs ws fits sheet tiles cut counts count way code free tells) sheet-free (unit sheet) c sheet-counts (λ t. unit (tiles t)) counts same_unit tile-counts T joined
+      (whole I J hs ws fits sheet tiles cut counts count way code free tells) sheet_free (unit sheet) c sheet_counts (λ t. unit (tiles t)) counts same_unit tile_counts T joined
       (comes_at I J hs ws way code T) f came finishes

@@ -1,7 +1,7 @@
 -- Totals as the paper tells them, of any records: an exit's total is its own count plus all that comes in at border cells with that way.
 -- Assumes nothing.
 use mathlib.Core.Path.{◌≡◌, refl, sym, ap, ◌∙◌}
-use mathlib.Core.Bool.{Bool, true, false, cond, ◌&&◌, and_true, and-false, true≢false}
+use mathlib.Core.Bool.{Bool, true, false, cond, ◌&&◌, and-true, and-false, true≢false}
 use mathlib.Core.Logic.{inl, inr, ◌↔◌}
 use Prim.Native.Nat.{ℕ, ◌+◌, ◌≤◌, ◌<◌}
 use native.Mathlib.Omega.{arith}
@@ -45,7 +45,7 @@ module _ (I J : ℕ) (hs ws way code : ℕ → ℕ) where
 
   comes_land : (T : ℕ → ℕ) (h : ℕ) → is_land way code h ≡ true → comes_in I J hs ws way code T h ≡ incoming (all_borders I J hs ws) (onto I J hs ws code) (exit_at I J hs ws way) T h
   unfolding comes_in incoming
-  comes_land T h e = sum_ext (λ g l. rw (e, and_true (eqb (onto I J hs ws code g) h)))
+  comes_land T h e = sum_ext (λ g l. rw (e, and-true (eqb (onto I J hs ws code g) h)))
 
   -- what comes in at a border cell with the way g
   with_way : (T : ℕ → ℕ) (g b : ℕ) → g < all_borders I J hs ws

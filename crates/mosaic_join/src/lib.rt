@@ -1,5 +1,7 @@
 // Joining the border records of a mosaic: what comes in at each border cell, from the totals of the exits that step onto it. The exits are
 // a net, each fed by the exits that step onto border cells with that way, and its counts are their totals.
+#![tactic(auto)]
+
 mod gather;
 mod tiles;
 
@@ -155,7 +157,7 @@ fn settle(
     requires waiting_len { length waiting.old ≡ borders tile_rows tile_cols records.now }
     ensures join_exits { JoinExits tile_rows tile_cols records.now (ends (join_reply result) incoming.new (cleared tile_rows tile_cols records.now)) }
     ensures totals_len { length totals.new ≡ borders tile_rows tile_cols records.now }
-    ensures waiting_len_2 { length waiting.new ≡ borders tile_rows tile_cols records.now }
+    ensures waiting_stays { length waiting.new ≡ borders tile_rows tile_cols records.now }
 {
     match count_net(feeds, totals, waiting) {
         NetCounted::Loop { first, length } => {

@@ -1,5 +1,7 @@
 // The net of the exits of a mosaic, written into lists by the records: where each border cell leads, what it pours onto as an exit, what it then feeds, and its
 // own count.
+#![tactic(auto)]
+
 mod leads;
 mod pours;
 

@@ -86,10 +86,10 @@ fn pour_tile(
     requires table { Table tile_rows tile_cols records.now table.now }
     requires filled { Filled (borders tile_rows tile_cols records.now) (leads_by tile_rows tile_cols records.now) leads.now (borders tile_rows tile_cols records.now) }
     requires t_bound { t < tile_rows * tile_cols }
-    requires filled_2 { Filled (borders tile_rows tile_cols records.now) (pours_by tile_rows tile_cols records.now) pours.old (first_of tile_rows tile_cols records.now t) }
-    requires filled_3 { Filled (borders tile_rows tile_cols records.now) (own_by tile_rows tile_cols records.now) own.old (first_of tile_rows tile_cols records.now t) }
-    ensures filled_4 { Filled (borders tile_rows tile_cols records.now) (pours_by tile_rows tile_cols records.now) pours.new (first_of tile_rows tile_cols records.now (t + 1)) }
-    ensures filled_5 { Filled (borders tile_rows tile_cols records.now) (own_by tile_rows tile_cols records.now) own.new (first_of tile_rows tile_cols records.now (t + 1)) }
+    requires pours_so_far { Filled (borders tile_rows tile_cols records.now) (pours_by tile_rows tile_cols records.now) pours.old (first_of tile_rows tile_cols records.now t) }
+    requires own_so_far { Filled (borders tile_rows tile_cols records.now) (own_by tile_rows tile_cols records.now) own.old (first_of tile_rows tile_cols records.now t) }
+    ensures pours_filled { Filled (borders tile_rows tile_cols records.now) (pours_by tile_rows tile_cols records.now) pours.new (first_of tile_rows tile_cols records.now (t + 1)) }
+    ensures own_filled { Filled (borders tile_rows tile_cols records.now) (own_by tile_rows tile_cols records.now) own.new (first_of tile_rows tile_cols records.now (t + 1)) }
 {
     let tile_row = t / tile_cols;
     let tile_col = t % tile_cols;
@@ -121,8 +121,8 @@ pub fn fill_pours(
     requires table { Table tile_rows tile_cols records.now table.now }
     requires filled { Filled (borders tile_rows tile_cols records.now) (leads_by tile_rows tile_cols records.now) leads.now (borders tile_rows tile_cols records.now) }
     requires pours_len { (length pours.old ≡ borders tile_rows tile_cols records.now) × (length own.old ≡ borders tile_rows tile_cols records.now) }
-    ensures filled_2 { Filled (borders tile_rows tile_cols records.now) (pours_by tile_rows tile_cols records.now) pours.new (borders tile_rows tile_cols records.now) }
-    ensures filled_3 { Filled (borders tile_rows tile_cols records.now) (own_by tile_rows tile_cols records.now) own.new (borders tile_rows tile_cols records.now) }
+    ensures pours_filled { Filled (borders tile_rows tile_cols records.now) (pours_by tile_rows tile_cols records.now) pours.new (borders tile_rows tile_cols records.now) }
+    ensures own_filled { Filled (borders tile_rows tile_cols records.now) (own_by tile_rows tile_cols records.now) own.new (borders tile_rows tile_cols records.now) }
 {
     let tiles = tile_rows * tile_cols;
     let mut t = 0;

@@ -77,14 +77,14 @@ module _ {bytes : List ℕ} {J t o above left : ℕ} (r : Reached bytes J t o ab
       → rows ≡ rows_at bytes o → top ≡ start_of bytes (t / J * J) → height ≡ rows_at bytes top → rows ≡ height
       → cols ≡ cols_at bytes o → side ≡ start_of bytes (t % J) → width ≡ cols_at bytes side → cols ≡ width
       → above + rows ≤ 4096 → left + cols ≤ 4096 → PlacedOk bytes J t
-  placed row_is row col_is col rows_is top-is height_is same_height cols_is side-is width_is same_width_lem high wide =
-      let tall : rows_of bytes t ≡ heights bytes J (t / J) = sym (rows_of_lem rows_is top-is height_is) ∙ same_height ∙ height_of_lem rows_is top-is height_is in
-      let broad : cols_of bytes t ≡ widths bytes (t % J) = sym (cols_of_lem cols_is side-is width_is) ∙ same_width_lem ∙ width_of cols_is side-is width_is in
+  placed row_is row col_is col rows_is top_is height_is same_height cols_is side_is width_is same_width_lem high wide =
+      let tall : rows_of bytes t ≡ heights bytes J (t / J) = sym (rows_of_lem rows_is top_is height_is) ∙ same_height ∙ height_of_lem rows_is top_is height_is in
+      let broad : cols_of bytes t ≡ widths bytes (t % J) = sym (cols_of_lem cols_is side_is width_is) ∙ same_width_lem ∙ width_of cols_is side_is width_is in
       record {
         row = ap (tile_row_at bytes) (sym r.start) ∙ sym row_is ∙ row;
         col = ap (tile_col_at bytes) (sym r.start) ∙ sym col_is ∙ col;
         height = tall;
         width = broad;
-        rows_most = omega (arith, r.above_is, rows_of_lem rows_is top-is height_is, tall, sum_suc (t / J) (heights bytes J));
-        cols_most = omega (arith, r.left_is, cols_of_lem cols_is side-is width_is, broad, sum_suc (t % J) (widths bytes));
+        rows_most = omega (arith, r.above_is, rows_of_lem rows_is top_is height_is, tall, sum_suc (t / J) (heights bytes J));
+        cols_most = omega (arith, r.left_is, cols_of_lem cols_is side_is width_is, broad, sum_suc (t % J) (widths bytes));
       }

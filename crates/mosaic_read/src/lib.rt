@@ -1,4 +1,6 @@
 // Reading the border records of a mosaic: whether they are well formed, or the first fault.
+#![tactic(auto)]
+
 pub mod bytes;
 mod parts;
 

@@ -36,11 +36,11 @@ edge_of rows cols r c l e = rw (row_of cols r c l, col_of cols r c l) at e
 module _ (I J : ℕ) (hs ws code : ℕ → ℕ) (t b r c a : ℕ) (lt : t < I * J) (lb : b < borders_in J hs ws t) (lr : r < height_of J hs t) (lc : c < width_of J ws t)
     (stands : r * width_of J ws t + c ≡ place_in J hs ws t b) (says : code (borders_before J hs ws t + b) ≡ a) (arrow : is_arrow a ≡ true)
     (outside : cells_in J hs ws t ≤ step_from (height_of J hs t) (width_of J ws t) (step_of a) (r * width_of J ws t + c))
-    (some-height : (i : ℕ) → i < I → 0 < hs i) (some-width : (j : ℕ) → j < J → 0 < ws j) where
+    (some_height : (i : ℕ) → i < I → 0 < hs i) (some_width : (j : ℕ) → j < J → 0 < ws j) where
   -- the row moves off the mosaic
   pub cross_rows : {i : ℕ} → i ≡ piece_after I (t / J) (height_of J hs t) (r + down a) → I ≤ i → onto I J hs ws code (borders_before J hs ws t + b) ≡ all_borders I J hs ws
   cross_rows p l =
-      elim (line_off hs I (t / J) r (down a) (row_in I J t lt) lr (down_most a arrow) some-height p l) [
+      elim (line_off hs I (t / J) r (down a) (row_in I J t lt) lr (down_most a arrow) some_height p l) [
         | inl (e, z) ↦ onto_north I J hs ws code t b r c a lt lb lr lc stands says arrow e z
         | inr (e, z) ↦ onto_south I J hs ws code t b r c a lt lb lr lc stands says arrow e z
       ]
@@ -48,7 +48,7 @@ module _ (I J : ℕ) (hs ws code : ℕ → ℕ) (t b r c a : ℕ) (lt : t < I * 
   -- the column does
   pub cross_cols : {j : ℕ} → j ≡ piece_after J (t % J) (width_of J ws t) (c + right a) → J ≤ j → onto I J hs ws code (borders_before J hs ws t + b) ≡ all_borders I J hs ws
   cross_cols p l =
-      elim (line_off ws J (t % J) c (right a) (col_in I J t lt) lc (right_most a arrow) some-width p l) [
+      elim (line_off ws J (t % J) c (right a) (col_in I J t lt) lc (right_most a arrow) some_width p l) [
         | inl (e, z) ↦ onto_west I J hs ws code t b r c a lt lb lr lc stands says arrow e z
         | inr (e, z) ↦ onto_east I J hs ws code t b r c a lt lb lr lc stands says arrow e z
       ]
@@ -79,9 +79,9 @@ module _ (I J : ℕ) (hs ws code : ℕ → ℕ) (t b r c a : ℕ) (lt : t < I * 
       let si : s / J ≡ i = ap (λ (x : ℕ). x / J) e ∙ row_of J i j lj in
       let sj : s % J ≡ j = ap (λ (x : ℕ). x % J) e ∙ col_of J i j lj in
       let ls : s < I * J = omega (arith, place_lt I J i j li lj) in
-      let m : Moved hs I (t / J) r (down a) (s / J) r' = line_moved hs I (t / J) r (down a) (row_in I J t lt) lr (down_most a arrow) some-height (si ∙ p) (row_in I J s ls)
+      let m : Moved hs I (t / J) r (down a) (s / J) r' = line_moved hs I (t / J) r (down a) (row_in I J t lt) lr (down_most a arrow) some_height (si ∙ p) (row_in I J s ls)
       (n ∙ ap (λ (x : ℕ). number_after (t / J) (r + down a) x (height_of J hs s)) (sym si)) in
-      let k : Moved ws J (t % J) c (right a) (s % J) c' = line_moved ws J (t % J) c (right a) (col_in I J t lt) lc (right_most a arrow) some-width (sj ∙ q) (col_in I J s ls)
+      let k : Moved ws J (t % J) c (right a) (s % J) c' = line_moved ws J (t % J) c (right a) (col_in I J t lt) lc (right_most a arrow) some_width (sj ∙ q) (col_in I J s ls)
       (o ∙ ap (λ (x : ℕ). number_after (t % J) (c + right a) x (width_of J ws s)) (sym sj)) in
       let d = apart s r' c' m k in
       let ly = spot_place I J hs ws s r' c' ls m.number_in_lem k.number_in_lem in

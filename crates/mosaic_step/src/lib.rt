@@ -1,4 +1,6 @@
 // The border cell of a mosaic that an exit steps onto.
+#![tactic(auto)]
+
 mod line;
 pub mod table;
 
@@ -21,7 +23,7 @@ use tile::border::{border_cells, border_number, border_spot};
 // The number in the mosaic of the border cell in row r and column c of tile t.
 fn number_in_mosaic(records: &[u8], table: &[u32], t: usize, r: usize, c: usize) -> usize
     requires t_in_bounds { 2 * t + 1 < length table.now }
-    requires t_in_bounds_2 { start_in table.now t + 7 ≤ length records.now }
+    requires record_in_bounds { start_in table.now t + 7 ≤ length records.now }
     requires cell { Cell (rows_at records.now (start_in table.now t)) (cols_at records.now (start_in table.now t)) r c }
     requires c_value { edge_at (rows_at records.now (start_in table.now t)) (cols_at records.now (start_in table.now t)) r c ≡ true }
     ensures { result ≡ first_in table.now t + border_number (rows_at records.now (start_in table.now t)) (cols_at records.now (start_in table.now t)) (r * cols_at records.now (start_in table.now t) + c) }

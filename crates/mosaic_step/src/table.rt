@@ -56,7 +56,7 @@ pub fn first_border(table: &[u32], t: usize) -> usize
 // The rows of tile t.
 pub fn tile_height(records: &[u8], table: &[u32], t: usize) -> usize
     requires t_in_bounds { 2 * t < length table.now }
-    requires t_in_bounds_2 { start_in table.now t + 7 ≤ length records.now }
+    requires record_in_bounds { start_in table.now t + 7 ≤ length records.now }
     ensures value { result ≡ rows_at records.now (start_in table.now t) }
     ensures upper_bound { result < 65536 }
 {
@@ -66,7 +66,7 @@ pub fn tile_height(records: &[u8], table: &[u32], t: usize) -> usize
 // The columns of tile t.
 pub fn tile_width(records: &[u8], table: &[u32], t: usize) -> usize
     requires t_in_bounds { 2 * t < length table.now }
-    requires t_in_bounds_2 { start_in table.now t + 7 ≤ length records.now }
+    requires record_in_bounds { start_in table.now t + 7 ≤ length records.now }
     ensures value { result ≡ cols_at records.now (start_in table.now t) }
     ensures upper_bound { result < 65536 }
 {

@@ -1,5 +1,7 @@
 // The look-around method over a sheet: scan the cells by place, write a cell that has no giver, and go down from it while all givers have
 // counts; one loop a function. `more` tells what comes to each cell from elsewhere; beyond its end nothing does.
+#![tactic(auto)]
+
 ghost use Rattle.std.specs.Prelude.{◌≡◌, ◌+◌, ◌*◌, ◌<◌, ◌≤◌, replicate};
 ghost use Rattle.sheet.specs.Leaves.{Laid, Cell};
 ghost use Rattle.around.specs.Around.{LooksAround};
@@ -119,7 +121,7 @@ fn scan_place(
 ) -> usize
     requires laid { Laid rows cols grid.now counts.old × Cell rows cols r c }
     requires counting { Counting rows cols grid.now more.now counts.old (r * cols + c) }
-    ensures counting_2 { Counting rows cols grid.now more.now counts.new (r * cols + c + 1) }
+    ensures counting_after { Counting rows cols grid.now more.now counts.new (r * cols + c + 1) }
     ensures counts_after { found rows cols grid.now counts.new ≡ found rows cols grid.now counts.old + result }
 {
     let p = r * cols + c;
@@ -147,7 +149,7 @@ fn scan_row(
 ) -> usize
     requires laid { Laid rows cols grid.now counts.old × (r < rows) }
     requires counting { Counting rows cols grid.now more.now counts.old (r * cols) }
-    ensures counting_2 { Counting rows cols grid.now more.now counts.new (r * cols + cols) }
+    ensures counting_after { Counting rows cols grid.now more.now counts.new (r * cols + cols) }
     ensures counts_after { found rows cols grid.now counts.new ≡ found rows cols grid.now counts.old + result }
 {
     let mut n: usize = 0;

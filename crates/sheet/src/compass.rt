@@ -3,7 +3,7 @@ ghost use Rattle.std.specs.Prelude.{◌≡◌};
 ghost use Rattle.sheet.specs.Compass.{meaning_of, is_arrow, is_code};
 
 // A code, and its step in rows and columns.
-#[derive(Drop)]
+#[derive(Clone, Copy)]
 pub struct Step(pub u8, pub i32, pub i32);
 
 // What a code means.

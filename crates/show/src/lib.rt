@@ -1,4 +1,6 @@
 // Writing the answer of the count program into a buffer: numbers, words, lines. Each function answers the next place.
+#![tactic(auto)]
+
 ghost use Rattle.std.specs.Prelude.{◌≡◌, [], ◌∷◌, ◌++◌, ◌+◌, ◌*◌, ◌<◌, ◌≤◌, length};
 ghost use Rattle.text.specs.Text.{decimal, lines};
 ghost use Rattle.show.specs.Show.{Wrote, refusal, shape_line, totals_line, done};

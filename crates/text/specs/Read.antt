@@ -1,6 +1,6 @@
 -- What the functions that read a text, and those that read its parts, promise.
 -- Assumes nothing.
-use Rattle.std.specs.Prelude.{Bool, cond, ◌&&◌, List, ◌∷◌, ◌++◌, map, ◌⊎◌, ◌≡◌, ℕ, zero, suc, ◌+◌, ◌*◌, ◌-◌, ◌≤◌, ltb, length, drop}
+use Rattle.std.specs.Prelude.{Bool, cond, ◌&&◌, List, ◌∷◌, ◌++◌, map, ◌⊎◌, ◌≡◌, ℕ, zero, suc, ◌*◌, ◌-◌, ◌≤◌, ltb, length, drop}
 use Rattle.sheet.specs.Leaves.{within}
 use Rattle.sheet.specs.Shape.{Within}
 use Rattle.text.specs.Text.{decimal, lines, Each, Short, Opens, Holds, Sides, FirstLine, Proper, StopsAt, NoFirstLine}

@@ -1,4 +1,6 @@
 // Reading the text of the count program: a line of rows and columns, then one line of codes per row.
+#![tactic(auto)]
+
 ghost use Rattle.std.specs.Prelude.{◌≡◌, ◌*◌, ◌<◌, ◌≤◌, length};
 ghost use Rattle.text.specs.Text.{Digit};
 ghost use Rattle.text.specs.Read.{Reads, end_of, turn, kept, fits, ReadsBody, ReadsFirst, Parses};

@@ -1,4 +1,6 @@
 // The bytes of a border record: numbers and fields, written byte by byte. Each function answers the next place.
+#![tactic(auto)]
+
 ghost use Rattle.std.specs.Prelude.{[], ◌∷◌, ◌≡◌, ◌+◌, ◌*◌, ◌<◌, ◌≤◌, length};
 ghost use Rattle.sheet.specs.Shape.{TileShape};
 ghost use Rattle.tile.specs.Border.{border_cells};

@@ -24,15 +24,15 @@ use Rattle.tile_finish.proofs.Weights.{weight_is}
 
 module _ (rows cols : ℕ) (g incoming work c : List ℕ) (long : length g ≡ rows * cols) (s : Counting rows cols g work c (rows * cols)) where
   -- a land cell is left: the first is the answer
-  pub answers-loop : {p len : ℕ} {d e : List ℕ} → FirstNot (length g) (NotLeft g c) p → len ≡ loop_length (rows * cols) (dest_of rows cols g) p
+  pub answers_loop : {p len : ℕ} {d e : List ℕ} → FirstNot (length g) (NotLeft g c) p → len ≡ loop_length (rows * cols) (dest_of rows cols g) p
       → d ≡ replicate (rows * cols) 0 → e ≡ replicate (rows * cols) 0 → Answered rows cols g incoming (ends (reply 4 (p ∷ len ∷ [])) d e)
-  answers-loop {p} {len} {d} {e} first l zd ze =
+  answers_loop {p} {len} {d} {e} first l zd ze =
       refused_with (record { place = p; len = len }) (rw l (left_first rows cols g work c long s first)) (rw (zd, ze) refl)
 
   -- none is left: all is counted
-  pub answers-done : (ok : (b : ℕ) → b < border_cells rows cols → IncomingOk rows cols g incoming b) → Spread rows cols incoming work (border_cells rows cols)
+  pub answers_done : (ok : (b : ℕ) → b < border_cells rows cols → IncomingOk rows cols g incoming b) → Spread rows cols incoming work (border_cells rows cols)
       → ((q : ℕ) → q < length g → NotLeft g c q) → {e : List ℕ} → e ≡ replicate (rows * cols) 0 → Answered rows cols g incoming (ends (reply 0 []) c e)
-  answers-done ok laid none {e} z =
+  answers_done ok laid none {e} z =
       let (free, counts) = none_left rows cols g work c long s (λ p l. left_not g c p (none p (omega arith))) in
       met_none (λ v first. first_loop_free free first) record {
         long = s.long;

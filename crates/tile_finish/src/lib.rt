@@ -1,5 +1,7 @@
 // Finishing a tile: its counts, with what comes in at its border cells from other tiles. What comes in is laid out by place, and the
 // look-around method of counting adds it to each cell's own 1.
+#![tactic(auto)]
+
 ghost use Rattle.std.specs.Prelude.{◌≡◌, ◌*◌, length, replicate};
 ghost use Rattle.scan.specs.Scan.{Counting};
 ghost use Rattle.promise.specs.First.{Finds};

@@ -22,33 +22,33 @@ use Rattle.tile_ways.specs.Ways.{FreeTile}
 use Rattle.tile_record.specs.Record.{RecordAnswer, cleared, ends}
 
 -- a buffer that has been cleared
-pub cleared-is : (rows cols : ℕ) {n : ℕ} {w : List ℕ} → w ≡ replicate n 0 → n ≡ rows * cols → w ≡ cleared rows cols
-cleared-is rows cols e l = e ∙ ap (λ (k : ℕ). replicate k 0) l
+pub cleared_is : (rows cols : ℕ) {n : ℕ} {w : List ℕ} → w ≡ replicate n 0 → n ≡ rows * cols → w ≡ cleared rows cols
+cleared_is rows cols e l = e ∙ ap (λ (k : ℕ). replicate k 0) l
 
 module _ (rows cols tile_row tile_col : ℕ) (g c : List ℕ) (long : length g ≡ rows * cols) (s : Counting rows cols g [] c (rows * cols)) where
   -- a land cell is left: the first is the answer
-  pub answers-loop : {p len : ℕ} {bytes w1 w2 : List ℕ} → FirstNot (length g) (NotLeft g c) p → len ≡ loop_length (rows * cols) (dest_of rows cols g) p
+  pub answers_loop : {p len : ℕ} {bytes w1 w2 : List ℕ} → FirstNot (length g) (NotLeft g c) p → len ≡ loop_length (rows * cols) (dest_of rows cols g) p
       → w1 ≡ cleared rows cols → w2 ≡ cleared rows cols → RecordAnswer rows cols tile_row tile_col g bytes (ends (reply 4 (p ∷ len ∷ [])) bytes w1 w2)
-  answers-loop {p} {len} {bytes} first e a b =
+  answers_loop {p} {len} {bytes} first e a b =
       refused_with (record { place = p; len = len }) (rw e (left_first rows cols g [] c long s first)) (λ i. ends (reply 4 (p ∷ len ∷ [])) bytes (a i) (b i))
 
   -- none is left
   module _ (none : (q : ℕ) → q < length g → NotLeft g c q) where
-    all-counted : SheetNoLoop rows cols g × SheetCounts rows cols g c
-    all-counted = none_left rows cols g [] c long s (λ p l. left_not g c p (none p (omega arith)))
+    all_counted : SheetNoLoop rows cols g × SheetCounts rows cols g c
+    all_counted = none_left rows cols g [] c long s (λ p l. left_not g c p (none p (omega arith)))
 
     -- the tile has no loop
-    pub free-tile : TileShape rows cols → FreeTile rows cols g
-    free-tile shape = record { shape = shape; grid_long = long; free = all-counted.0 }
+    pub free_tile : TileShape rows cols → FreeTile rows cols g
+    free_tile shape = record { shape = shape; grid_long = long; free = all_counted.0 }
 
     -- and the record of its counts is written
-    pub answers-done : {bytes after w1 w2 : List ℕ} → after ≡ record_bytes rows cols tile_row tile_col g c → w1 ≡ cleared rows cols → w2 ≡ cleared rows cols
+    pub answers_done : {bytes after w1 w2 : List ℕ} → after ≡ record_bytes rows cols tile_row tile_col g c → w1 ≡ cleared rows cols → w2 ≡ cleared rows cols
         → RecordAnswer rows cols tile_row tile_col g bytes (ends (reply 0 []) after w1 w2)
-    answers-done e a b =
-        met_none (λ v first. first_loop_free all-counted.0 first) record {
+    answers_done e a b =
+        met_none (λ v first. first_loop_free all_counted.0 first) record {
           counts = c;
           long = s.long;
-          equation = all-counted.1;
+          equation = all_counted.1;
           bytes_are = e;
           said_is = refl;
           work1_clear = a;

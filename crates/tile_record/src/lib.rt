@@ -1,4 +1,6 @@
 // Writing the border record of a tile: the tile is counted by itself, and of each border cell its count and its way are written.
+#![tactic(auto)]
+
 ghost use Rattle.std.specs.Prelude.{[], ◌≡◌, ◌*◌, length, replicate};
 ghost use Rattle.sheet.specs.Shape.{TileShape};
 ghost use Rattle.scan.specs.Scan.{Counting};

@@ -1,5 +1,7 @@
 // The ways of a tile's border cells. `known` holds one more than the place of the last cell of a cell's path, or 0 where that is not known
 // yet, so that no cell's last cell is sought again once it is known.
+#![tactic(auto)]
+
 ghost use Rattle.std.specs.Prelude.{true, ◌≡◌, ◌+◌, ◌*◌, ◌<◌, ◌≤◌, length};
 ghost use Rattle.sheet.specs.Leaves.{Cell};
 ghost use Rattle.sheet.specs.Sheet.{land_at};
@@ -73,7 +75,7 @@ fn last_of(rows: usize, cols: usize, grid: &[u8], known: &mut [u32], r: usize, c
     requires free_tile { FreeTile rows cols grid.now × Cell rows cols r c }
     requires known { Known rows cols grid.now known.old }
     ensures value { result ≡ last_cell rows cols grid.now (r * cols + c) }
-    ensures known_2 { Known rows cols grid.now known.new }
+    ensures known_after { Known rows cols grid.now known.new }
 {
     let last = seek_last(rows, cols, grid, known, r, c);
     mark_path(rows, cols, grid, known, r, c, last);
@@ -105,7 +107,7 @@ fn way_of(rows: usize, cols: usize, grid: &[u8], known: &mut [u32], r: usize, c:
     requires free_tile { FreeTile rows cols grid.now × Cell rows cols r c }
     requires known { Known rows cols grid.now known.old }
     ensures same_way { SameWay (way_at rows cols grid.now (r * cols + c)) result }
-    ensures known_2 { Known rows cols grid.now known.new }
+    ensures known_after { Known rows cols grid.now known.new }
 {
     if !is_arrow(grid[r * cols + c]) {
         return BorderWay {
@@ -130,7 +132,7 @@ fn put_way(
     requires free_tile { FreeTile rows cols grid.now × (b < border_cells rows cols) }
     requires known { Known rows cols grid.now known.old × (at + 3 ≤ length bytes.old) }
     ensures puts { Puts (way_bytes (border_way rows cols grid.now b)) bytes.old at bytes.new result }
-    ensures known_2 { Known rows cols grid.now known.new }
+    ensures known_after { Known rows cols grid.now known.new }
 {
     let s = border_spot(rows, cols, b);
     let w = way_of(rows, cols, grid, known, s.row, s.col);

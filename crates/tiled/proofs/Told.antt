@@ -13,7 +13,7 @@ use Rattle.flow.proofs.Count.{counts_through, through_counts}
 use Rattle.flow.proofs.Sum.{test}
 use Rattle.mosaic.specs.Join.{Tells}
 use Rattle.mosaic.specs.Layout.{height_of, width_of, cells_in, borders_in, place_in}
-use Rattle.mosaic.proofs.Borders.{border_tile_lem, border_in, place_in_lem}
+use Rattle.mosaic.proofs.Borders.{border_tile_lem, border_in}
 use Rattle.mosaic.proofs.Pieces.{row_in, col_in, starts_rise}
 use Rattle.mosaic_read.specs.Records.{start_of, rows_of, cols_of, borders_of, heights, widths, PartOk, PlacedOk}
 use Rattle.mosaic_read.specs.Said.{said_count, said_way, said_code}

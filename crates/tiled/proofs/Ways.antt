@@ -7,7 +7,6 @@ use mathlib.Core.Path.{◌≡◌, sym, ap, ◌∙◌}
 use Prim.Native.Nat.{ℕ, ◌*◌, ◌<◌, ◌≤◌}
 use native.Mathlib.Omega.{arith}
 use lib.ListN.{length}
-use Rattle.flow.specs.Net.{number}
 use Rattle.flow.proofs.Bound.{counts_bound}
 use Rattle.flow.proofs.Sum.{test, on_true}
 use Rattle.sheet.specs.Compass.{is_arrow}
@@ -40,9 +39,9 @@ module _ (rows cols : ℕ) (g counts : List ℕ) (shape : TileShape rows cols) (
 
   -- bytes that say the counts and ways of the border cells
   module _ (bytes : List ℕ) (o : ℕ)
-      (says-count : (b : ℕ) → b < B → cell_count bytes o b ≡ count_at counts (border_place rows cols b))
-      (says-way : (b : ℕ) → b < B → cell_way bytes o B b ≡ (way_at rows cols g (border_place rows cols b)).number)
-      (says-code : (b : ℕ) → b < B → cell_code bytes o B b ≡ (way_at rows cols g (border_place rows cols b)).code) where
+      (says_count : (b : ℕ) → b < B → cell_count bytes o b ≡ count_at counts (border_place rows cols b))
+      (says_way : (b : ℕ) → b < B → cell_way bytes o B b ≡ (way_at rows cols g (border_place rows cols b)).number)
+      (says_code : (b : ℕ) → b < B → cell_code bytes o B b ≡ (way_at rows cols g (border_place rows cols b)).code) where
     abbrev at : ℕ → ℕ
     at b = border_place rows cols b
 
@@ -50,10 +49,10 @@ module _ (rows cols : ℕ) (g counts : List ℕ) (shape : TileShape rows cols) (
     end b = last_cell rows cols g (at b)
 
     number_is : (b : ℕ) → b < B → {w : Way} → way_at rows cols g (at b) ≡ w → cell_way bytes o B b ≡ w.number
-    number_is b l e = says-way b l ∙ ap (λ (w : Way). w.number) e
+    number_is b l e = says_way b l ∙ ap (λ (w : Way). w.number) e
 
     code_is : (b : ℕ) → b < B → {w : Way} → way_at rows cols g (at b) ≡ w → cell_code bytes o B b ≡ w.code
-    code_is b l e = says-code b l ∙ ap (λ (w : Way). w.code) e
+    code_is b l e = says_code b l ∙ ap (λ (w : Way). w.code) e
 
     arrow_is : (b : ℕ) → b < B → way_at rows cols g (at b) ≡ over rows cols g (end b) → land_at g (end b) ≡ true → is_arrow (cell_code bytes o B b) ≡ true
     unfolding land_at
@@ -71,8 +70,8 @@ module _ (rows cols : ℕ) (g counts : List ℕ) (shape : TileShape rows cols) (
         let l' : cell_way bytes o B b < B = omega arith in
         record {
           border = l';
-          same_way = says-way (cell_way bytes o B b) l' ∙ ap (λ (w : Way). w.number) same ∙ sym (says-way b l);
-          same_code = says-code (cell_way bytes o B b) l' ∙ ap (λ (w : Way). w.code) same ∙ sym (says-code b l);
+          same_way = says_way (cell_way bytes o B b) l' ∙ ap (λ (w : Way). w.number) same ∙ sym (says_way b l);
+          same_code = says_code (cell_way bytes o B b) l' ∙ ap (λ (w : Way). w.code) same ∙ sym (says_code b l);
           arrow = arrow_is b l w (crosses_land rows cols g (end b) x);
           outside = rw (place, code_is b l w) (crosses_step rows cols g (end b) x);
         }
@@ -85,25 +84,25 @@ module _ (rows cols : ℕ) (g counts : List ℕ) (shape : TileShape rows cols) (
               let w = way_absent rows cols g (at b) absent in
               let mark : (cell_way bytes o B b ≡ 65535) × (cell_code bytes o B b ≡ 255) = (number_is b l w, code_is b l w) in
               record {
-                absent_zero = λ m. says-count b l ∙ absent_zero rows cols g long counts eq (at b) inside absent;
+                absent_zero = λ m. says_count b l ∙ absent_zero rows cols g long counts eq (at b) inside absent;
                 zero_absent = λ z. mark;
-                leads = λ no-mark not-inside. absurd (no-mark mark);
+                leads = λ no_mark not_inside. absurd (no_mark mark);
               }
           | inl land ↦ elim (test (crosses rows cols g (end b))) [
             | inl x ↦
                 let number : cell_way bytes o B b ≡ border_number rows cols (end b) = number_is b l (way_over rows cols g (at b) land x) in
                 record {
                   absent_zero = λ m. absurd (omega (arith, m.0, way_number rows cols g long free (at b) inside x, cells_most rows cols shape));
-                  zero_absent = λ z. absurd (omega (arith, says-count b l, land_some (at b) inside land));
-                  leads = λ no-mark not-inside. leads_over b l land x;
+                  zero_absent = λ z. absurd (omega (arith, says_count b l, land_some (at b) inside land));
+                  leads = λ no_mark not_inside. leads_over b l land x;
                 }
             | inr x ↦
                 let w = way_inside rows cols g (at b) land x in
                 let code : cell_code bytes o B b ≡ 0 = code_is b l w in
                 record {
                   absent_zero = λ m. absurd (omega (arith, m.1));
-                  zero_absent = λ z. absurd (omega (arith, says-count b l, land_some (at b) inside land));
-                  leads = λ no-mark not-inside. absurd (not-inside (number_is b l w, code));
+                  zero_absent = λ z. absurd (omega (arith, says_count b l, land_some (at b) inside land));
+                  leads = λ no_mark not_inside. absurd (not_inside (number_is b l w, code));
                 }
           ]
         ]

@@ -1,0 +1,19 @@
+-- `around::has_from` meets its contract: beyond the sheet no arrow is found.
+-- Assumes nothing.
+use native.Mathlib.Omega.{arith}
+use Rattle.around.specs.Around.{one}
+use Rattle.around.proofs.Weigh.{adds_from, adds_beyond}
+use Rattle.around.proofs.has_from.Goals as goal
+
+pub returns-then-q-none : goal.returns-then-q-none
+returns-then-q-none c =
+    let a = c.args in
+    (adds_from a.grid.now one a.code c.beside-q.ensures c.has.ensures.0, c.has.ensures.1)
+
+pub returns : goal.returns
+returns c =
+    let a = c.args in (
+      adds_from a.grid.now one a.code c.beside-q.ensures
+          (adds_beyond a.grid.now one c.beside-q.result a.code (omega arith) c.requires.back_value.1),
+      omega arith,
+    )

@@ -1,0 +1,11 @@
+-- The loops of `mosaic_net::leads::fill_leads`: what they keep, and what falls.
+use Prim.Native.Nat.{◌*◌, ◌-◌, ◌≤◌}
+use Rattle.mosaic_read.specs.Said.{borders}
+use Rattle.mosaic_net.specs.Method.{Filled, leads_by, first_of}
+use Rattle.mosaic_net.proofs.leads.fill_leads.Given as goal
+
+abbrev pub invariant-loop-t : goal.invariant-loop-t
+invariant-loop-t l = (l.t ≤ l.tile_rows * l.tile_cols) × Filled (borders l.tile_rows l.tile_cols l.records) (leads_by l.tile_rows l.tile_cols l.records) l.leads (first_of l.tile_rows l.tile_cols l.records l.t)
+
+abbrev pub decreases-loop-t : goal.decreases-loop-t
+decreases-loop-t l = l.tile_rows * l.tile_cols - l.t

@@ -1,0 +1,11 @@
+-- The loops of `mosaic_net::pours::pour_tile`: what they keep, and what falls.
+use Prim.Native.Nat.{◌+◌, ◌≤◌, ◌-◌}
+use Rattle.mosaic_read.specs.Said.{borders}
+use Rattle.mosaic_net.specs.Method.{Filled, pours_by, own_by}
+use Rattle.mosaic_net.proofs.pours.pour_tile.Given as goal
+
+abbrev pub invariant-loop-b : goal.invariant-loop-b
+invariant-loop-b l = (l.b ≤ l.n) × Filled (borders l.tile_rows l.tile_cols l.records) (pours_by l.tile_rows l.tile_cols l.records) l.pours (l.first + l.b) × Filled (borders l.tile_rows l.tile_cols l.records) (own_by l.tile_rows l.tile_cols l.records) l.own (l.first + l.b)
+
+abbrev pub decreases-loop-b : goal.decreases-loop-b
+decreases-loop-b l = l.n - l.b

@@ -1,0 +1,5 @@
+-- The recursion of `show::write_number`: the number falls.
+use Rattle.show.proofs.+write_number.Given as goal
+
+abbrev pub decreases-write_number : goal.decreases-write_number
+decreases-write_number l = l.n
