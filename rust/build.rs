@@ -19,7 +19,7 @@ fn main() {
     println!("cargo::rerun-if-changed={}", archive.display());
     if !archive.is_file() {
         println!(
-            "cargo::error={} is missing; build it, in the top folder of the repository, with: rt staticlib drainage",
+            "cargo::error={} is missing; build it, in the top folder of the repository, with: tools/build library",
             archive.display()
         );
         return;

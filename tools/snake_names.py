@@ -20,7 +20,14 @@ LET = re.compile(r"\blet ([^\s:{}()=]+) ")
 # two lemmas whose names differ in one letter's case
 BY_HAND = {"case-O": "case_o_bytes", "case-o": "case_o_read"}
 # variables whose names stand in definitions
-VARIABLES = {"tileRow": "tile_row", "tileCol": "tile_col", "tileRows": "tile_rows", "tileCols": "tile_cols"}
+VARIABLES = {"tileRow": "tile_row", "tileCol": "tile_col", "tileRows": "tile_rows", "tileCols": "tile_cols", "hT": "told_counts"} | {
+    n: n.replace("-", "_")
+    for n in (
+        "loop-place", "next-other", "next-t", "sheet-free", "sheet-counts", "is-p", "says-count", "says-way", "says-code", "no-mark", "not-inside",
+        "top-is", "side-is", "on-to", "some-height", "some-width", "tile-counts", "no-border", "count-ends", "mend-ends", "record-ends", "finish-ends",
+        "join-ends",
+    )
+}
 
 
 def snake(name):
@@ -40,7 +47,7 @@ def files(root, endings):
 
 def is_walk(path):
     """A file of the proof of one function, whose own names are the prover's."""
-    return os.path.basename(path) in ("Proof.antt", "Answers.antt", "Invariants.antt")
+    return os.path.basename(path) in ("Proof.antt", "Answers.antt", "Invariants.antt") and os.path.basename(os.path.dirname(path)) != "proofs"
 
 
 def own_names(root):
@@ -54,6 +61,17 @@ def own_names(root):
                 for name in ([m.group(1)] if m else []) + LET.findall(line):
                     if "◌" not in name and re.match(r"[a-zα-ω]", name):
                         found[name].add(path)
+    return found
+
+
+def from_outside(root, text):
+    """The names that a file imports from another library than the repository's crates."""
+    own = set(os.listdir(os.path.join(root, "crates")))
+    found = set()
+    for module, names in re.findall(r"^(?:ghost )?use ([^{\s]*)\.\{([^}]*)\}", text, re.M):
+        crate = re.match(r"Rattle\.(\w+)\.", module)
+        if not crate or crate.group(1) not in own:
+            found |= {n.strip() for n in names.split(",")}
     return found
 
 
@@ -103,7 +121,8 @@ def main(argv):
             here = tokens & (olds - {new})
             if (here and new in tokens) or len(here) > 1:
                 print(f"clash: {path}: {', '.join(sorted(here))} becomes {new}, which stands there too")
-        after = respell(text, names, path.endswith(".rt"))
+        outside = from_outside(root, text)
+        after = respell(text, {o: n for o, n in names.items() if o not in outside}, path.endswith(".rt"))
         if after != text:
             changed += 1
             if not look:

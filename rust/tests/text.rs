@@ -90,7 +90,7 @@ fn program() -> Result<PathBuf, String> {
         Ok(path)
     } else {
         Err(format!(
-            "{} is missing; build it, in the top folder of the repository, with: rt check count_text",
+            "{} is missing; build it, in the top folder of the repository, with: tools/build program",
             path.display()
         ))
     }
