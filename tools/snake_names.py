@@ -17,8 +17,8 @@ TOKEN = re.compile(r"[^\W_][\w'₀-₉-]*|_[\w'₀-₉-]+")
 # a signature, at the top or within a module, a field, or a constructor; and a name that a `let` binds
 SIGNATURE = re.compile(r"^ *(?:abbrev |unfoldable )?(?:pub )?([^\s:{}()]+)((?: \{[^}]*\}| \([^)]*\))*) :(?= |$)")
 LET = re.compile(r"\blet ([^\s:{}()=]+) ")
-# two lemmas whose names differ in one letter's case
-BY_HAND = {"case-O": "case_o_bytes", "case-o": "case_o_read"}
+# two lemmas whose names differ in one letter's case, and two that name a word of the library by its old name
+BY_HAND = {"case-O": "case_o_bytes", "case-o": "case_o_read", "getD-there": "get_or_there", "get_d_past": "get_or_past"}
 # variables whose names stand in definitions
 VARIABLES = {"tileRow": "tile_row", "tileCol": "tile_col", "tileRows": "tile_rows", "tileCols": "tile_cols", "hT": "told_counts"} | {
     n: n.replace("-", "_")

@@ -8,7 +8,7 @@ use native.Mathlib.Omega.{arith}
 use lib.Dec.{eqb}
 use lib.ListN.{length, replicate}
 use Rattle.flow.specs.Net.{on, sum, given, NoLoop, FirstLoop}
-use Rattle.flow.proofs.Lists.{get_d_past}
+use Rattle.flow.proofs.Lists.{get_or_past}
 use Rattle.flow.proofs.Loop.{first_loop_free}
 use Rattle.flow.proofs.Sum.{sum_ext}
 use Rattle.flow.proofs.Totals.{counts_weights}
@@ -35,7 +35,7 @@ given_arrows n to on_to c h same = sum_ext (λ q l. ap (λ (x : ℕ). on (eqb x 
 
 past : (list : List ℕ) (g : ℕ) → length list ≤ g → to_at list g ≡ length list
 unfolding to_at
-past list g l = get_d_past list g (length list) l
+past list g l = get_or_past list g (length list) l
 
 module _ (I J : ℕ) (bytes : List ℕ) (w : WellFormed I J bytes) where
   abbrev M : ℕ

@@ -18,14 +18,14 @@ use Rattle.sheet.proofs.Table.{absent_no_arrow}
 -- ---- codes and land
 
 -- an element that is there is read the same with any default
-pub get_d_there : (l : List ℕ) (i d e : ℕ) → i < length l → get_or l i d ≡ get_or l i e
-get_d_there [] i d e h = absurd (omega arith)
-get_d_there (x ∷ l) zero d e h = refl
-get_d_there (x ∷ l) (suc i) d e h = get_d_there l i d e (le_of_suc-le-suc h)
+pub get_or_there : (l : List ℕ) (i d e : ℕ) → i < length l → get_or l i d ≡ get_or l i e
+get_or_there [] i d e h = absurd (omega arith)
+get_or_there (x ∷ l) zero d e h = refl
+get_or_there (x ∷ l) (suc i) d e h = get_or_there l i d e (le_of_suc-le-suc h)
 
 -- the code that is read at a place of the grid
 pub code_read : (g : List ℕ) (p : ℕ) → p < length g → get_or g p 0 ≡ code_at g p
-code_read g p l = get_d_there g p 0 255 l
+code_read g p l = get_or_there g p 0 255 l
 
 pub land_read : (g : List ℕ) (p : ℕ) → p < length g → is_arrow (get_or g p 0) ≡ land_at g p
 unfolding land_at

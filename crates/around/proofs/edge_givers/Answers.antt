@@ -9,35 +9,67 @@ use Rattle.around.proofs.edge_givers.Goals as goal
 
 pub has_from-east-requires : goal.has_from-east-requires
 has_from-east-requires c =
-    record { cell = c.requires.cell; grid_len = c.requires.grid_len; back_value = (line_arrow 4 (omega arith), line_arrow 0 (omega arith)) }
+    record {
+      cell = c.requires.cell;
+      grid_len = c.requires.grid_len;
+      back_value = (line_arrow 4 (omega arith), line_arrow 0 (omega arith));
+    }
 
 pub has_from-south_east-requires : goal.has_from-south_east-requires
 has_from-south_east-requires c =
-    record { cell = c.requires.cell; grid_len = c.requires.grid_len; back_value = (line_arrow 5 (omega arith), line_arrow 1 (omega arith)) }
+    record {
+      cell = c.requires.cell;
+      grid_len = c.requires.grid_len;
+      back_value = (line_arrow 5 (omega arith), line_arrow 1 (omega arith));
+    }
 
 pub has_from-south-requires : goal.has_from-south-requires
 has_from-south-requires c =
-    record { cell = c.requires.cell; grid_len = c.requires.grid_len; back_value = (line_arrow 6 (omega arith), line_arrow 2 (omega arith)) }
+    record {
+      cell = c.requires.cell;
+      grid_len = c.requires.grid_len;
+      back_value = (line_arrow 6 (omega arith), line_arrow 2 (omega arith));
+    }
 
 pub has_from-south_west-requires : goal.has_from-south_west-requires
 has_from-south_west-requires c =
-    record { cell = c.requires.cell; grid_len = c.requires.grid_len; back_value = (line_arrow 7 (omega arith), line_arrow 3 (omega arith)) }
+    record {
+      cell = c.requires.cell;
+      grid_len = c.requires.grid_len;
+      back_value = (line_arrow 7 (omega arith), line_arrow 3 (omega arith));
+    }
 
 pub has_from-west-requires : goal.has_from-west-requires
 has_from-west-requires c =
-    record { cell = c.requires.cell; grid_len = c.requires.grid_len; back_value = (line_arrow 0 (omega arith), line_arrow 4 (omega arith)) }
+    record {
+      cell = c.requires.cell;
+      grid_len = c.requires.grid_len;
+      back_value = (line_arrow 0 (omega arith), line_arrow 4 (omega arith));
+    }
 
 pub has_from-north_west-requires : goal.has_from-north_west-requires
 has_from-north_west-requires c =
-    record { cell = c.requires.cell; grid_len = c.requires.grid_len; back_value = (line_arrow 1 (omega arith), line_arrow 5 (omega arith)) }
+    record {
+      cell = c.requires.cell;
+      grid_len = c.requires.grid_len;
+      back_value = (line_arrow 1 (omega arith), line_arrow 5 (omega arith));
+    }
 
 pub has_from-north-requires : goal.has_from-north-requires
 has_from-north-requires c =
-    record { cell = c.requires.cell; grid_len = c.requires.grid_len; back_value = (line_arrow 2 (omega arith), line_arrow 6 (omega arith)) }
+    record {
+      cell = c.requires.cell;
+      grid_len = c.requires.grid_len;
+      back_value = (line_arrow 2 (omega arith), line_arrow 6 (omega arith));
+    }
 
 pub has_from-north_east-requires : goal.has_from-north_east-requires
 has_from-north_east-requires c =
-    record { cell = c.requires.cell; grid_len = c.requires.grid_len; back_value = (line_arrow 3 (omega arith), line_arrow 7 (omega arith)) }
+    record {
+      cell = c.requires.cell;
+      grid_len = c.requires.grid_len;
+      back_value = (line_arrow 3 (omega arith), line_arrow 7 (omega arith));
+    }
 
 pub returns : goal.returns
 unfolding term step_of line_of

@@ -18,7 +18,10 @@ overflow_add-r-then-c-cols c = omega (arith, cell_fits c.requires.cell)
 
 pub inner_givers-requires : goal.inner_givers-requires
 inner_givers-requires c =
-    record { inner = inner_cell c.requires.cell c.if-r-ge1.true c.if-r-rows.true c.if-c-ge1.true c.if-c-cols.true; grid_len = c.requires.grid_len }
+    record {
+      inner = inner_cell c.requires.cell c.if-r-ge1.true c.if-r-rows.true c.if-c-ge1.true c.if-c-cols.true;
+      grid_len = c.requires.grid_len;
+    }
 
 pub returns-then-c-cols : goal.returns-then-c-cols
 returns-then-c-cols c =

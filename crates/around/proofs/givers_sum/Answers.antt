@@ -17,7 +17,8 @@ nonzero_rem-p c = some_cols c.requires.place
 pub givers_sum_at-requires : goal.givers_sum_at-requires
 givers_sum_at-requires c =
     let a = c.args in
-    let p = place_of_cell c.requires.place in record { cell = p.0; grid_len = c.requires.grid_len; c_value = ap (land_at a.grid.now) p.1 ∙ c.requires.p_value }
+    let p = place_of_cell c.requires.place in
+    record { cell = p.0; grid_len = c.requires.grid_len; c_value = ap (land_at a.grid.now) p.1 ∙ c.requires.p_value }
 
 pub returns : goal.returns
 returns c =

@@ -13,4 +13,7 @@ overflow_add-r-then-c-cols c = omega (arith, cell_fits c.requires.cell)
 
 pub inner-requires : goal.inner-requires
 inner-requires c =
-    record { inner = inner_cell c.requires.cell c.if-r-ge1.true c.if-r-rows.true c.if-c-ge1.true c.if-c-cols.true; grid_len = c.requires.grid_len }
+    record {
+      inner = inner_cell c.requires.cell c.if-r-ge1.true c.if-r-rows.true c.if-c-ge1.true c.if-c-cols.true;
+      grid_len = c.requires.grid_len;
+    }

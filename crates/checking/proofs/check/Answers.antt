@@ -20,7 +20,11 @@ returns-then-counts-n c =
 
 pub check_cells-requires : goal.check_cells-requires
 check_cells-requires c =
-    let m = rw c.in-Fits.is at c.make.ensures in record { sheet_shape = m.0; sheet_lengths = record { grid_long = omega (arith, m); counts_long = omega (arith, m) } }
+    let m = rw c.in-Fits.is at c.make.ensures in
+    record {
+      sheet_shape = m.0;
+      sheet_lengths = record { grid_long = omega (arith, m); counts_long = omega (arith, m) };
+    }
 
 pub returns : goal.returns
 returns c =

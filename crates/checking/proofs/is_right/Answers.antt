@@ -29,7 +29,12 @@ overflow_cast-result c = let a = c.args in omega (arith, c.shared_slice_known-th
 
 pub givers_sum_at-requires : goal.givers_sum_at-requires
 givers_sum_at-requires c =
-    let a = c.args in record { cell = c.requires.cell; grid_len = (c.requires.laid.grid_long, c.requires.laid.counts_long); c_value = (sym (land_read a.grid.now (a.r * a.cols + a.c) (omega (arith, cell_below c.requires.cell))) ∙ sym c.is_arrow.ensures ∙ c.if-is_arrow.true) }
+    let a = c.args in
+    record {
+      cell = c.requires.cell;
+      grid_len = (c.requires.laid.grid_long, c.requires.laid.counts_long);
+      c_value = (sym (land_read a.grid.now (a.r * a.cols + a.c) (omega (arith, cell_below c.requires.cell))) ∙ sym c.is_arrow.ensures ∙ c.if-is_arrow.true);
+    }
 
 pub overflow_add-result : goal.overflow_add-result
 overflow_add-result c =

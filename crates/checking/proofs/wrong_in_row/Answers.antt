@@ -13,7 +13,10 @@ loop-c-init c = (omega arith, λ q l. c.requires.right_below q (omega arith))
 
 pub is_right-requires : goal.is_right-requires
 is_right-requires c =
-    record { laid = c.requires.laid; cell = record { rows_fit = c.requires.laid.rows_fit; cols_fit = c.requires.laid.cols_fit; row_in = c.requires.r_lt_rows; col_in = c.loop-c-test.true } }
+    record {
+      laid = c.requires.laid;
+      cell = record { rows_fit = c.requires.laid.rows_fit; cols_fit = c.requires.laid.cols_fit; row_in = c.requires.r_lt_rows; col_in = c.loop-c-test.true };
+    }
 
 pub overflow_mul-p : goal.overflow_mul-p
 overflow_mul-p c =

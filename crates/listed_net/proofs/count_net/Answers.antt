@@ -8,7 +8,10 @@ use Rattle.listed_net.proofs.count_net.Goals as goal
 
 pub number_givers-requires : goal.number_givers-requires
 number_givers-requires c =
-    record { to_len_bound = c.requires.cells_most; waiting_value = c.clear.ensures ∙ ap (λ (n : ℕ). replicate n 0) c.requires.waiting_long }
+    record {
+      to_len_bound = c.requires.cells_most;
+      waiting_value = c.clear.ensures ∙ ap (λ (n : ℕ). replicate n 0) c.requires.waiting_long;
+    }
 
 pub scan-requires : goal.scan-requires
 scan-requires c =
@@ -17,7 +20,11 @@ scan-requires c =
 
 pub loop_length-length-requires : goal.loop_length-length-requires
 loop_length-length-requires c =
-    let a = c.args in record { to_len_bound = c.requires.cells_most; on_loop = whole_on_loop a.to.now a.totals.now _ _ _ c.scan.ensures _ (rw c.in-At.is at c.first_open.ensures) }
+    let a = c.args in
+    record {
+      to_len_bound = c.requires.cells_most;
+      on_loop = whole_on_loop a.to.now a.totals.now _ _ _ c.scan.ensures _ (rw c.in-At.is at c.first_open.ensures);
+    }
 
 pub returns-in-At : goal.returns-in-At
 returns-in-At c =

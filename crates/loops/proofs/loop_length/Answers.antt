@@ -23,7 +23,11 @@ pub dest-p-requires-in-loop-p : goal.dest-p-requires-in-loop-p
 dest-p-requires-in-loop-p c =
     let a = c.args in
     let to = dest_of a.rows a.cols a.grid.now in
-    let out = dest_beyond a.rows a.cols a.grid.now c.requires.laid.grid_long in record { place = place_of c.requires.laid (omega (arith, c.loop-p.invariant.0, round_inside (a.rows * a.cols) to out a.start c.requires.sheet_on_loop (suc c.loop-p.further))); grid_len = c.requires.laid.grid_long }
+    let out = dest_beyond a.rows a.cols a.grid.now c.requires.laid.grid_long in
+    record {
+      place = place_of c.requires.laid (omega (arith, c.loop-p.invariant.0, round_inside (a.rows * a.cols) to out a.start c.requires.sheet_on_loop (suc c.loop-p.further)));
+      grid_len = c.requires.laid.grid_long;
+    }
 
 pub overflow_add-further : goal.overflow_add-further
 overflow_add-further c =

@@ -12,7 +12,12 @@ returns-then-grid-place c =
 
 pub look_ahead-requires : goal.look_ahead-requires
 look_ahead-requires c =
-    let a = c.args in record { laid = laid_on a.rows a.cols a.grid.now c.requires.laid c.requires.laid.grid_long; place_bound = c.requires.place_bound; sheet_no_loop = lent_free a.rows a.cols a.grid.now a.counts.now a.place c.requires.laid c.requires.place_bound c.requires.sheet_counts }
+    let a = c.args in
+    record {
+      laid = laid_on a.rows a.cols a.grid.now c.requires.laid c.requires.laid.grid_long;
+      place_bound = c.requires.place_bound;
+      sheet_no_loop = lent_free a.rows a.cols a.grid.now a.counts.now a.place c.requires.laid c.requires.place_bound c.requires.sheet_counts;
+    }
 
 pub take_out-requires : goal.take_out-requires
 take_out-requires c = rw c.look_ahead.ensures.grid_unchanged (record { laid = c.requires.laid; place_bound = c.requires.place_bound; sheet_counts = c.requires.sheet_counts })

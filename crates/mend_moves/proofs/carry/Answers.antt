@@ -17,7 +17,9 @@ bounds-counts-p c = omega (arith, c.loop-p.invariant.long)
 pub overflow_add-counts : goal.overflow_add-counts
 overflow_add-counts c =
     let a = c.args in
-    record { fits = fits a.rows a.cols a.grid.now c.loop-p.counts c.loop-p.p a.more a.less (laid_on a.rows a.cols a.grid.now c.requires.laid c.loop-p.invariant.long) c.requires.sheet_no_loop c.loop-p.invariant c.requires.less_bound c.loop-p-test.true }
+    record {
+      fits = fits a.rows a.cols a.grid.now c.loop-p.counts c.loop-p.p a.more a.less (laid_on a.rows a.cols a.grid.now c.requires.laid c.loop-p.invariant.long) c.requires.sheet_no_loop c.loop-p.invariant c.requires.less_bound c.loop-p-test.true;
+    }
 
 pub overflow_sub-counts : goal.overflow_sub-counts
 overflow_sub-counts c =

@@ -6,12 +6,29 @@ use Rattle.mosaic_join.proofs.join_exits.Goals as goal
 
 pub write_net-requires : goal.write_net-requires
 write_net-requires c =
-    let a = c.args in let l = c.requires.join_lengths in record { well_formed = c.requires.well_formed; leads_len = l.incoming_long; pours_len = l.work1_long; feeds_len = l.work2_long; own_len = l.work3_long; table_len = l.work5_long }
+    let l = c.requires.join_lengths in
+    record {
+      well_formed = c.requires.well_formed;
+      leads_len = l.incoming_long;
+      pours_len = l.work1_long;
+      feeds_len = l.work2_long;
+      own_len = l.work3_long;
+      table_len = l.work5_long;
+    }
 
 pub settle-r-requires : goal.settle-r-requires
 settle-r-requires c =
-    let a = c.args in let n = c.write_net.ensures in record { well_formed = c.requires.well_formed; net_written = n.net_written; incoming_value = n.leads_after; waiting_len = c.requires.join_lengths.work4_long }
+    let n = c.write_net.ensures in
+    record {
+      well_formed = c.requires.well_formed;
+      net_written = n.net_written;
+      incoming_value = n.leads_after;
+      waiting_len = c.requires.join_lengths.work4_long;
+    }
 
 pub returns : goal.returns
 returns c =
-    let a = c.args in let n = c.write_net.ensures.net_written in let f = c.settle-r.ensures in when_cleared a.tile_rows a.tile_cols a.records.now c.requires.well_formed (c.clear_works.ensures ∙ works_cleared a.tile_rows a.tile_cols a.records.now c.requires.well_formed n.pours_are.long n.feeds_are.long f.totals_len f.waiting_stays n.table_is.long) f.join_exits
+    let a = c.args in
+    let n = c.write_net.ensures.net_written in
+    let f = c.settle-r.ensures in
+    when_cleared a.tile_rows a.tile_cols a.records.now c.requires.well_formed (c.clear_works.ensures ∙ works_cleared a.tile_rows a.tile_cols a.records.now c.requires.well_formed n.pours_are.long n.feeds_are.long f.totals_len f.waiting_stays n.table_is.long) f.join_exits

@@ -24,8 +24,11 @@ returns-then-work5-ne128 c = let a = c.args in refused (λ l. c.if-work5-ne128.t
 
 pub join_exits-requires : goal.join_exits-requires
 join_exits-requires c =
-    let a = c.args in record { well_formed = c.requires.well_formed; join_lengths = record { incoming_long = c.if-incoming-n.false ∙ c.requires.n_value; work1_long = c.if-work1-n.false ∙ c.requires.n_value; work2_long = c.if-work2-n.false ∙ c.requires.n_value; work3_long = c.if-work3-n.false ∙ c.requires.n_value; work4_long = c.if-work4-n.false ∙ c.requires.n_value; work5_long = c.if-work5-ne128.false } }
+    record {
+      well_formed = c.requires.well_formed;
+      join_lengths = record { incoming_long = c.if-incoming-n.false ∙ c.requires.n_value; work1_long = c.if-work1-n.false ∙ c.requires.n_value; work2_long = c.if-work2-n.false ∙ c.requires.n_value; work3_long = c.if-work3-n.false ∙ c.requires.n_value; work4_long = c.if-work4-n.false ∙ c.requires.n_value; work5_long = c.if-work5-ne128.false };
+    }
 
 pub returns : goal.returns
 returns c =
-    let a = c.args in met record { incoming_long = c.if-incoming-n.false ∙ c.requires.n_value; work1_long = c.if-work1-n.false ∙ c.requires.n_value; work2_long = c.if-work2-n.false ∙ c.requires.n_value; work3_long = c.if-work3-n.false ∙ c.requires.n_value; work4_long = c.if-work4-n.false ∙ c.requires.n_value; work5_long = c.if-work5-ne128.false } c.join_exits.ensures
+    met record { incoming_long = c.if-incoming-n.false ∙ c.requires.n_value; work1_long = c.if-work1-n.false ∙ c.requires.n_value; work2_long = c.if-work2-n.false ∙ c.requires.n_value; work3_long = c.if-work3-n.false ∙ c.requires.n_value; work4_long = c.if-work4-n.false ∙ c.requires.n_value; work5_long = c.if-work5-ne128.false } c.join_exits.ensures

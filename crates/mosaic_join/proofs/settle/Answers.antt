@@ -10,28 +10,56 @@ use Rattle.mosaic_join.proofs.settle.Goals as goal
 
 pub count_net-requires : goal.count_net-requires
 count_net-requires c =
-    let a = c.args in net_lent a.tile_rows a.tile_cols a.records.now c.requires.well_formed a.feeds.now a.totals.now c.requires.net_written.feeds_are c.requires.net_written.own_are a.waiting.now c.requires.waiting_len
+    let a = c.args in
+    net_lent a.tile_rows a.tile_cols a.records.now c.requires.well_formed a.feeds.now a.totals.now c.requires.net_written.feeds_are c.requires.net_written.own_are a.waiting.now c.requires.waiting_len
 
 pub tile_of-tile-requires : goal.tile_of-tile-requires
 tile_of-tile-requires c =
-    let a = c.args in let k = rw c.in-Loop.is at c.count_net.ensures in let l = (loop_is a.tile_rows a.tile_cols a.records.now c.requires.well_formed a.feeds.now a.totals.now c.requires.net_written.feeds_are c.requires.net_written.own_are k.answers).here.0 in record { well_formed = c.requires.well_formed; table = c.requires.net_written.table_is; g_bound = l }
+    let a = c.args in
+    let k = rw c.in-Loop.is at c.count_net.ensures in
+    let l = (loop_is a.tile_rows a.tile_cols a.records.now c.requires.well_formed a.feeds.now a.totals.now c.requires.net_written.feeds_are c.requires.net_written.own_are k.answers).here.0 in
+    record { well_formed = c.requires.well_formed; table = c.requires.net_written.table_is; g_bound = l }
 
 pub first_border-requires : goal.first_border-requires
 first_border-requires c =
-    let a = c.args in let k = rw c.in-Loop.is at c.count_net.ensures in let l = (loop_is a.tile_rows a.tile_cols a.records.now c.requires.well_formed a.feeds.now a.totals.now c.requires.net_written.feeds_are c.requires.net_written.own_are k.answers).here.0 in table_in a.tile_rows a.tile_cols a.records.now c.requires.well_formed a.table.now c.requires.net_written.table_is _ (tile_there a.tile_rows a.tile_cols a.records.now c.requires.well_formed _ l a.table.now c.requires.net_written.table_is c.tile_of-tile.ensures)
+    let a = c.args in
+    let k = rw c.in-Loop.is at c.count_net.ensures in
+    let l = (loop_is a.tile_rows a.tile_cols a.records.now c.requires.well_formed a.feeds.now a.totals.now c.requires.net_written.feeds_are c.requires.net_written.own_are k.answers).here.0 in
+    table_in a.tile_rows a.tile_cols a.records.now c.requires.well_formed a.table.now c.requires.net_written.table_is _ (tile_there a.tile_rows a.tile_cols a.records.now c.requires.well_formed _ l a.table.now c.requires.net_written.table_is c.tile_of-tile.ensures)
 
 pub overflow_sub-border : goal.overflow_sub-border
 overflow_sub-border c =
-    let a = c.args in let k = rw c.in-Loop.is at c.count_net.ensures in let l = (loop_is a.tile_rows a.tile_cols a.records.now c.requires.well_formed a.feeds.now a.totals.now c.requires.net_written.feeds_are c.requires.net_written.own_are k.answers).here.0 in first_le a.tile_rows a.tile_cols a.records.now c.requires.well_formed _ l a.table.now c.requires.net_written.table_is c.tile_of-tile.ensures c.first_border.ensures
+    let a = c.args in
+    let k = rw c.in-Loop.is at c.count_net.ensures in
+    let l = (loop_is a.tile_rows a.tile_cols a.records.now c.requires.well_formed a.feeds.now a.totals.now c.requires.net_written.feeds_are c.requires.net_written.own_are k.answers).here.0 in
+    first_le a.tile_rows a.tile_cols a.records.now c.requires.well_formed _ l a.table.now c.requires.net_written.table_is c.tile_of-tile.ensures c.first_border.ensures
 
 pub gather-requires : goal.gather-requires
 gather-requires c =
-    let a = c.args in let k = rw c.in-Done.is at c.count_net.ensures in record { gather_lent = gather_lent a.tile_rows a.tile_cols a.records.now c.requires.well_formed a.feeds.now a.totals.now c.requires.net_written.feeds_are c.requires.net_written.own_are a.pours.now _ c.requires.net_written.pours_are k.answers k.totals_long; sums_value = c.requires.incoming_value ∙ ap (λ (n : ℕ). replicate n 0) (sym c.requires.net_written.pours_are.long) }
+    let a = c.args in
+    let k = rw c.in-Done.is at c.count_net.ensures in
+    record {
+      gather_lent = gather_lent a.tile_rows a.tile_cols a.records.now c.requires.well_formed a.feeds.now a.totals.now c.requires.net_written.feeds_are c.requires.net_written.own_are a.pours.now _ c.requires.net_written.pours_are k.answers k.totals_long;
+      sums_value = c.requires.incoming_value ∙ ap (λ (n : ℕ). replicate n 0) (sym c.requires.net_written.pours_are.long);
+    }
 
 pub returns-in-Loop : goal.returns-in-Loop
 returns-in-Loop c =
-    let a = c.args in let k = rw c.in-Loop.is at c.count_net.ensures in let l = (loop_is a.tile_rows a.tile_cols a.records.now c.requires.well_formed a.feeds.now a.totals.now c.requires.net_written.feeds_are c.requires.net_written.own_are k.answers).here.0 in record { join_exits = answers_loop a.tile_rows a.tile_cols a.records.now c.requires.well_formed a.feeds.now a.totals.now c.requires.net_written.feeds_are c.requires.net_written.own_are k.answers c.tile_of-tile.ensures (number_left a.tile_rows a.tile_cols a.records.now c.requires.well_formed _ l a.table.now c.requires.net_written.table_is c.tile_of-tile.ensures c.first_border.ensures) c.requires.incoming_value refl; totals_len = k.totals_long ∙ c.requires.net_written.feeds_are.long; waiting_stays = k.waiting_long ∙ c.requires.net_written.feeds_are.long }
+    let a = c.args in
+    let k = rw c.in-Loop.is at c.count_net.ensures in
+    let l = (loop_is a.tile_rows a.tile_cols a.records.now c.requires.well_formed a.feeds.now a.totals.now c.requires.net_written.feeds_are c.requires.net_written.own_are k.answers).here.0 in
+    record {
+      join_exits = answers_loop a.tile_rows a.tile_cols a.records.now c.requires.well_formed a.feeds.now a.totals.now c.requires.net_written.feeds_are c.requires.net_written.own_are k.answers c.tile_of-tile.ensures (number_left a.tile_rows a.tile_cols a.records.now c.requires.well_formed _ l a.table.now c.requires.net_written.table_is c.tile_of-tile.ensures c.first_border.ensures) c.requires.incoming_value refl;
+      totals_len = k.totals_long ∙ c.requires.net_written.feeds_are.long;
+      waiting_stays = k.waiting_long ∙ c.requires.net_written.feeds_are.long;
+    }
 
 pub returns-in-Done : goal.returns-in-Done
 returns-in-Done c =
-    let a = c.args in let k = rw c.in-Done.is at c.count_net.ensures in record { join_exits = answers_done a.tile_rows a.tile_cols a.records.now c.requires.well_formed a.feeds.now a.totals.now c.requires.net_written.feeds_are c.requires.net_written.own_are a.pours.now _ c.requires.net_written.pours_are k.answers c.gather.ensures refl; totals_len = k.totals_long ∙ c.requires.net_written.feeds_are.long; waiting_stays = k.waiting_long ∙ c.requires.net_written.feeds_are.long }
+    let a = c.args in
+    let k = rw c.in-Done.is at c.count_net.ensures in
+    record {
+      join_exits = answers_done a.tile_rows a.tile_cols a.records.now c.requires.well_formed a.feeds.now a.totals.now c.requires.net_written.feeds_are c.requires.net_written.own_are a.pours.now _ c.requires.net_written.pours_are k.answers c.gather.ensures refl;
+      totals_len = k.totals_long ∙ c.requires.net_written.feeds_are.long;
+      waiting_stays = k.waiting_long ∙ c.requires.net_written.feeds_are.long;
+    }

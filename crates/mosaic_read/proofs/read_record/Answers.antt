@@ -47,7 +47,11 @@ border_cells-borders-requires c =
 
 pub counts_ok-requires : goal.counts_ok-requires
 counts_ok-requires c =
-    let sides = says_so c.sides_ok.result c.sides_ok.ensures c.if-not-sides_ok.false in record { tile_of = tile_of_lem (rw (c.two_at-rows.ensures.value, c.two_at-cols.ensures.value) sides.shape) c.border_cells-borders.ensures; o_in_bounds = omega (arith, sides.inside) }
+    let sides = says_so c.sides_ok.result c.sides_ok.ensures c.if-not-sides_ok.false in
+    record {
+      tile_of = tile_of_lem (rw (c.two_at-rows.ensures.value, c.two_at-cols.ensures.value) sides.shape) c.border_cells-borders.ensures;
+      o_in_bounds = omega (arith, sides.inside);
+    }
 
 pub overflow_add-p : goal.overflow_add-p
 overflow_add-p c =
@@ -63,7 +67,11 @@ returns-then-not-counts_ok c =
 pub ways_ok-requires : goal.ways_ok-requires
 ways_ok-requires c =
     let sides = says_so c.sides_ok.result c.sides_ok.ensures c.if-not-sides_ok.false in
-    let counts = says_so c.counts_ok.result c.counts_ok.ensures c.if-not-counts_ok.false in record { tile_of = tile_of_lem (rw (c.two_at-rows.ensures.value, c.two_at-cols.ensures.value) sides.shape) c.border_cells-borders.ensures; borders_in_bounds = counts.inside }
+    let counts = says_so c.counts_ok.result c.counts_ok.ensures c.if-not-counts_ok.false in
+    record {
+      tile_of = tile_of_lem (rw (c.two_at-rows.ensures.value, c.two_at-cols.ensures.value) sides.shape) c.border_cells-borders.ensures;
+      borders_in_bounds = counts.inside;
+    }
 
 pub overflow_add-p-then-not-ways_ok : goal.overflow_add-p-then-not-ways_ok
 overflow_add-p-then-not-ways_ok c =

@@ -12,16 +12,26 @@ use Rattle.mosaic_step.proofs.onto.Goals as goal
 
 pub tile_height-rows-requires : goal.tile_height-rows-requires
 tile_height-rows-requires c =
-    record { t_in_bounds = omega (arith, slot_in c.requires.well_formed c.requires.table _ c.requires.tile_is.tile); record_in_bounds = sides_in c.requires.well_formed c.requires.table _ c.requires.tile_is.tile }
+    record {
+      t_in_bounds = omega (arith, slot_in c.requires.well_formed c.requires.table _ c.requires.tile_is.tile);
+      record_in_bounds = sides_in c.requires.well_formed c.requires.table _ c.requires.tile_is.tile;
+    }
 
 pub tile_width-cols-requires : goal.tile_width-cols-requires
 tile_width-cols-requires c =
-    record { t_in_bounds = omega (arith, slot_in c.requires.well_formed c.requires.table _ c.requires.tile_is.tile); record_in_bounds = sides_in c.requires.well_formed c.requires.table _ c.requires.tile_is.tile }
+    record {
+      t_in_bounds = omega (arith, slot_in c.requires.well_formed c.requires.table _ c.requires.tile_is.tile);
+      record_in_bounds = sides_in c.requires.well_formed c.requires.table _ c.requires.tile_is.tile;
+    }
 
 pub border_spot-spot-requires : goal.border_spot-spot-requires
 border_spot-spot-requires c =
     let h = c.tile_height-rows.ensures.value in
-    let v = c.tile_width-cols.ensures.value in record { tile_shape = tabled_shape c.requires.well_formed c.requires.table _ c.requires.tile_is.tile h v; b_bound = border_read c.requires.well_formed c.requires.table c.requires.tile_is c.requires.exit h v }
+    let v = c.tile_width-cols.ensures.value in
+    record {
+      tile_shape = tabled_shape c.requires.well_formed c.requires.table _ c.requires.tile_is.tile h v;
+      b_bound = border_read c.requires.well_formed c.requires.table c.requires.tile_is c.requires.exit h v;
+    }
 
 pub tile_start-requires : goal.tile_start-requires
 tile_start-requires c = omega (arith, slot_in c.requires.well_formed c.requires.table _ c.requires.tile_is.tile)
@@ -81,7 +91,10 @@ pub tile_height-requires : goal.tile_height-requires
 tile_height-requires c =
     let next = c.piece_after-i.result * c.args.tile_cols + c.piece_after-j.result in
     let inside : next < c.args.tile_rows * c.args.tile_cols = place_lt _ _ _ _ (omega (arith, c.if-tile_rows-i.false)) (omega (arith, c.if-tile_cols-j.false)) in
-    record { t_in_bounds = omega (arith, slot_in c.requires.well_formed c.requires.table next inside); record_in_bounds = sides_in c.requires.well_formed c.requires.table next inside }
+    record {
+      t_in_bounds = omega (arith, slot_in c.requires.well_formed c.requires.table next inside);
+      record_in_bounds = sides_in c.requires.well_formed c.requires.table next inside;
+    }
 
 pub number_after-r-requires : goal.number_after-r-requires
 number_after-r-requires c =
@@ -96,7 +109,10 @@ pub tile_width-requires : goal.tile_width-requires
 tile_width-requires c =
     let next = c.piece_after-i.result * c.args.tile_cols + c.piece_after-j.result in
     let inside : next < c.args.tile_rows * c.args.tile_cols = place_lt _ _ _ _ (omega (arith, c.if-tile_rows-i.false)) (omega (arith, c.if-tile_cols-j.false)) in
-    record { t_in_bounds = omega (arith, slot_in c.requires.well_formed c.requires.table next inside); record_in_bounds = sides_in c.requires.well_formed c.requires.table next inside }
+    record {
+      t_in_bounds = omega (arith, slot_in c.requires.well_formed c.requires.table next inside);
+      record_in_bounds = sides_in c.requires.well_formed c.requires.table next inside;
+    }
 
 pub number_after-c-requires : goal.number_after-c-requires
 number_after-c-requires c =
@@ -119,7 +135,12 @@ number_in_mosaic-requires c =
     (c.tile_width.ensures.value ∙ tabled_width c.requires.well_formed c.requires.table next inside)
     c.number_after-r.ensures c.number_after-c.ensures
     in
-    record { t_in_bounds = slot_in c.requires.well_formed c.requires.table next inside; record_in_bounds = sides_in c.requires.well_formed c.requires.table next inside; cell = found_cell c.requires.well_formed c.requires.table found; c_value = found_edge c.requires.well_formed c.requires.table found }
+    record {
+      t_in_bounds = slot_in c.requires.well_formed c.requires.table next inside;
+      record_in_bounds = sides_in c.requires.well_formed c.requires.table next inside;
+      cell = found_cell c.requires.well_formed c.requires.table found;
+      c_value = found_edge c.requires.well_formed c.requires.table found;
+    }
 
 pub returns : goal.returns
 returns c =

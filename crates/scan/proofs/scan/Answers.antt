@@ -17,7 +17,8 @@ loop-r-init c =
 pub scan_row-n-requires : goal.scan_row-n-requires
 scan_row-n-requires c =
     let a = c.args in
-    let m = c.loop-r.invariant in record { laid = (laid_on a.rows a.cols a.grid.now c.requires.laid m.1.long, c.loop-r-test.true); counting = m.1 }
+    let m = c.loop-r.invariant in
+    record { laid = (laid_on a.rows a.cols a.grid.now c.requires.laid m.1.long, c.loop-r-test.true); counting = m.1 }
 
 pub overflow_add-n : goal.overflow_add-n
 overflow_add-n c =
@@ -39,4 +40,8 @@ pub returns : goal.returns
 returns c =
     let a = c.args in
     let m = c.loop-r.invariant in
-    let all : c.loop-r.r ≡ a.rows = omega arith in record { counting = scan_place_on a.rows a.cols a.grid.now a.more.now _ (ap (λ (x : ℕ). x * a.cols) all) m.1; counts_after = m.2 }
+    let all : c.loop-r.r ≡ a.rows = omega arith in
+    record {
+      counting = scan_place_on a.rows a.cols a.grid.now a.more.now _ (ap (λ (x : ℕ). x * a.cols) all) m.1;
+      counts_after = m.2;
+    }

@@ -13,7 +13,11 @@ loop-c-init c =
 pub scan_place-n-requires : goal.scan_place-n-requires
 scan_place-n-requires c =
     let a = c.args in
-    let m = c.loop-c.invariant in record { laid = (laid_on a.rows a.cols a.grid.now c.requires.laid.0 m.1.long, record { rows_fit = c.requires.laid.0.rows_fit; cols_fit = c.requires.laid.0.cols_fit; row_in = c.requires.laid.1; col_in = c.loop-c-test.true }); counting = m.1 }
+    let m = c.loop-c.invariant in
+    record {
+      laid = (laid_on a.rows a.cols a.grid.now c.requires.laid.0 m.1.long, record { rows_fit = c.requires.laid.0.rows_fit; cols_fit = c.requires.laid.0.cols_fit; row_in = c.requires.laid.1; col_in = c.loop-c-test.true });
+      counting = m.1;
+    }
 
 pub overflow_add-n : goal.overflow_add-n
 overflow_add-n c =
@@ -34,4 +38,8 @@ shape_of-counts c = omega (arith, c.loop-c.invariant.1.long, c.requires.laid.0.c
 pub returns : goal.returns
 returns c =
     let a = c.args in
-    let m = c.loop-c.invariant in record { counting_after = scan_place_on a.rows a.cols a.grid.now a.more.now _ (omega arith) m.1; counts_after = m.2 }
+    let m = c.loop-c.invariant in
+    record {
+      counting_after = scan_place_on a.rows a.cols a.grid.now a.more.now _ (omega arith) m.1;
+      counts_after = m.2;
+    }

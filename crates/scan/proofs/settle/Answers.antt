@@ -36,4 +36,9 @@ bounds-counts-r c = omega (arith, cell_below c.requires.laid.1, c.requires.laid.
 
 pub returns : goal.returns
 returns c =
-    let a = c.args in record { moved = settled a.rows a.cols a.grid.now a.more.now a.counts.now (a.r * a.cols + a.c) c.requires.laid.0 c.requires.right_so_far (cell_below c.requires.laid.1) c.requires.to_count a.sum c.own.result c.own.ensures.0 c.requires.looks_around c.dest_at.ensures.place_is; ends = spot_ends c.dest_at.ensures; col_bound = settled_less a.rows a.cols a.grid.now a.more.now a.counts.now (a.r * a.cols + a.c) c.requires.laid.0 c.requires.right_so_far (cell_below c.requires.laid.1) c.requires.to_count a.sum c.own.result c.own.ensures.0 c.requires.looks_around (c.dest_at.result.row * a.cols + c.dest_at.result.col) }
+    let a = c.args in
+    record {
+      moved = settled a.rows a.cols a.grid.now a.more.now a.counts.now (a.r * a.cols + a.c) c.requires.laid.0 c.requires.right_so_far (cell_below c.requires.laid.1) c.requires.to_count a.sum c.own.result c.own.ensures.0 c.requires.looks_around c.dest_at.ensures.place_is;
+      ends = spot_ends c.dest_at.ensures;
+      col_bound = settled_less a.rows a.cols a.grid.now a.more.now a.counts.now (a.r * a.cols + a.c) c.requires.laid.0 c.requires.right_so_far (cell_below c.requires.laid.1) c.requires.to_count a.sum c.own.result c.own.ensures.0 c.requires.looks_around (c.dest_at.result.row * a.cols + c.dest_at.result.col);
+    }

@@ -15,7 +15,8 @@ pub arrive-next-requires : goal.arrive-next-requires
 arrive-next-requires c =
     let a = c.args in
     let m = c.loop-row.invariant in
-    let laid = laid_on a.rows a.cols a.grid.now c.requires.laid.0 m.0.long in record { laid = (laid, ends_cell m.1 laid c.loop-row-test.true); right_so_far = m.0.right; to_count = m.0.to_count }
+    let laid = laid_on a.rows a.cols a.grid.now c.requires.laid.0 m.0.long in
+    record { laid = (laid, ends_cell m.1 laid c.loop-row-test.true); right_so_far = m.0.right; to_count = m.0.to_count }
 
 pub loop-row-smaller : goal.loop-row-smaller
 loop-row-smaller c = c.arrive-next.ensures.col_bound
@@ -31,7 +32,12 @@ shape_of-counts-then-row-rows c = omega (arith, c.loop-row.invariant.0.long, c.r
 pub returns-then-row-rows : goal.returns-then-row-rows
 returns-then-row-rows c =
     let m = c.loop-row.invariant in
-    record { at = _; over = ends_over m.1 c.loop-row-test.false; moved = m.0; number_is = ends_none m.1 c.if-row-rows.true }
+    record {
+      at = _;
+      over = ends_over m.1 c.loop-row-test.false;
+      moved = m.0;
+      number_is = ends_none m.1 c.if-row-rows.true;
+    }
 
 pub shape_of-counts : goal.shape_of-counts
 shape_of-counts c = omega (arith, c.loop-row.invariant.0.long, c.requires.laid.0.counts_long)
@@ -39,4 +45,9 @@ shape_of-counts c = omega (arith, c.loop-row.invariant.0.long, c.requires.laid.0
 pub returns : goal.returns
 returns c =
     let m = c.loop-row.invariant in
-    record { at = _; over = ends_over m.1 c.loop-row-test.false; moved = m.0; number_is = ends_wait m.1 c.loop-row-test.false c.if-row-rows.false }
+    record {
+      at = _;
+      over = ends_over m.1 c.loop-row-test.false;
+      moved = m.0;
+      number_is = ends_wait m.1 c.loop-row-test.false c.if-row-rows.false;
+    }

@@ -3,6 +3,7 @@
 use native.Mathlib.Omega.{arith}
 use Rattle.text.proofs.Decimal.{decimal_some, step_long}
 use Rattle.show.proofs.Wrote.{wrote_is, wrote_then, wrote_long, one_digit, last_digit}
+use mathlib.Core.Path.{◌∙◌}
 use Rattle.show.proofs.+write_number.Goals as goal
 
 pub put-requires : goal.put-requires
@@ -26,7 +27,7 @@ put-requires-2 t c =
     omega (arith, c.requires, step_long c.args.n c.if-n-lt10.false, wrote_long w, w.next_is)
 
 pub shape_of-out : goal.shape_of-out
-shape_of-out t c = wrote_long (wrote_then c.write_number-next.ensures c.put-2.ensures)
+shape_of-out t c = wrote_long c.put-2.ensures ∙ wrote_long c.write_number-next.ensures
 
 pub returns : goal.returns
 returns t c = wrote_is (last_digit _ _ c.digit-2.ensures c.if-n-lt10.false) (wrote_then c.write_number-next.ensures c.put-2.ensures)

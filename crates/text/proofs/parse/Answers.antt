@@ -50,7 +50,3 @@ returns-in-Whole c =
     let text = c.args.text.now in
     let next = c.in-Line.next in
     parse_whole _ _ _ _ _ _ first _ w (part_end text next) (rw c.in-Whole.is at c.read_body.ensures)
-
--- slice-bounds-rest-start =     let a = c.before.before.before in
---     let o = rw a.rows.given.1 at a.before.before.read_first.ensures in
---     omega (arith, o.0)

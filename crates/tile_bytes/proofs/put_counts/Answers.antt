@@ -19,7 +19,11 @@ put_count-next-requires c =
     let a = c.args in
     let m = c.loop-b.invariant in
     let l = c.loop-b-test.true in
-    let e = c.border_cells-cells.ensures in record { tile_shape = (c.requires.tile_shape.0, omega arith); counts_len = (c.requires.tile_shape.1, omega (arith, m.1.next_is, m.1.long, counts_long a.rows a.cols a.counts.now c.loop-b.b, c.requires.cols_in_bounds)) }
+    let e = c.border_cells-cells.ensures in
+    record {
+      tile_shape = (c.requires.tile_shape.0, omega arith);
+      counts_len = (c.requires.tile_shape.1, omega (arith, m.1.next_is, m.1.long, counts_long a.rows a.cols a.counts.now c.loop-b.b, c.requires.cols_in_bounds));
+    }
 
 pub loop-b-smaller : goal.loop-b-smaller
 loop-b-smaller c = omega (arith, c.border_cells-cells.ensures, c.loop-b-test.true)

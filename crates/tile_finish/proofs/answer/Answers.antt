@@ -11,7 +11,11 @@ use Rattle.tile_finish.proofs.answer.Goals as goal
 
 pub loop_length-length-requires : goal.loop_length-length-requires
 loop_length-length-requires c =
-    let a = c.args in record { laid = laid_of c.requires.tile_shape (omega arith) c.requires.finish_lengths.grid_long c.requires.finish_lengths.grid_long; sheet_on_loop = left_on_loop a.rows a.cols a.grid.now a.work.now a.counts.now c.requires.finish_lengths.grid_long c.requires.counting (rw c.in-At.is at c.first_left.ensures) }
+    let a = c.args in
+    record {
+      laid = laid_of c.requires.tile_shape (omega arith) c.requires.finish_lengths.grid_long c.requires.finish_lengths.grid_long;
+      sheet_on_loop = left_on_loop a.rows a.cols a.grid.now a.work.now a.counts.now c.requires.finish_lengths.grid_long c.requires.counting (rw c.in-At.is at c.first_left.ensures);
+    }
 
 pub returns-in-At : goal.returns-in-At
 returns-in-At c =

@@ -35,7 +35,11 @@ returns-then-work-n c =
 
 pub finish_cells-requires : goal.finish_cells-requires
 finish_cells-requires c =
-    let m = rw c.in-Fits.is at c.make.ensures in record { tile_shape = m.0; finish_lengths = record { grid_long = omega (arith, m); incoming_long = omega (arith, c.border_cells.ensures); counts_long = omega (arith, m); work_long = omega (arith, m) } }
+    let m = rw c.in-Fits.is at c.make.ensures in
+    record {
+      tile_shape = m.0;
+      finish_lengths = record { grid_long = omega (arith, m); incoming_long = omega (arith, c.border_cells.ensures); counts_long = omega (arith, m); work_long = omega (arith, m) };
+    }
 
 pub returns : goal.returns
 returns c =

@@ -13,7 +13,11 @@ returns-in-At-first_bad_incoming c =
 
 pub finish_tile-requires : goal.finish_tile-requires
 finish_tile-requires c =
-    record { tile_shape = c.requires.tile_shape; finish_lengths = c.requires.finish_lengths; all_may_come_in = rw c.in_default-first_bad_incoming.is at c.first_bad_incoming.ensures }
+    record {
+      tile_shape = c.requires.tile_shape;
+      finish_lengths = c.requires.finish_lengths;
+      all_may_come_in = rw c.in_default-first_bad_incoming.is at c.first_bad_incoming.ensures;
+    }
 
 pub returns : goal.returns
 returns c =

@@ -14,7 +14,11 @@ pub loop-border-init : goal.loop-border-init
 loop-border-init c = (omega arith, below_none _)
 
 pub border_spot-s-requires : goal.border_spot-s-requires
-border_spot-s-requires c = record { tile_shape = c.requires.tile_shape; b_bound = omega (arith, c.requires.grid_len.1, c.loop-border-test.true) }
+border_spot-s-requires c =
+    record {
+      tile_shape = c.requires.tile_shape;
+      b_bound = omega (arith, c.requires.grid_len.1, c.loop-border-test.true);
+    }
 
 pub overflow_mul-s : goal.overflow_mul-s
 overflow_mul-s c =

@@ -50,4 +50,5 @@ shape_of-work c =
 
 pub returns : goal.returns
 returns c =
-    let all : c.loop-b.b ≡ border_cells c.args.rows c.args.cols = omega (arith, c.loop-b.invariant.0, c.requires.incoming_len) in rw all at c.loop-b.invariant.1
+    let all : c.loop-b.b ≡ border_cells c.args.rows c.args.cols = omega (arith, c.loop-b.invariant.0, c.requires.incoming_len) in
+    rw all at c.loop-b.invariant.1

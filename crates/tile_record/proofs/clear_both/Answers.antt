@@ -27,4 +27,8 @@ pub returns : goal.returns
 returns c =
     let a = c.args in
     let all : c.loop-i.i ≡ length a.first.now = omega arith in
-    let both : c.loop-i.i ≡ length a.second.now = omega arith in record { first_after = c.loop-i.invariant.0 ∙ rw (all, drop-length) (append-nil _); second_after = c.loop-i.invariant.1 ∙ rw (both, drop-length) (append-nil _) }
+    let both : c.loop-i.i ≡ length a.second.now = omega arith in
+    record {
+      first_after = c.loop-i.invariant.0 ∙ rw (all, drop-length) (append-nil _);
+      second_after = c.loop-i.invariant.1 ∙ rw (both, drop-length) (append-nil _);
+    }

@@ -10,19 +10,23 @@ use Rattle.tile_record.proofs.Answers.{cleared_is}
 use Rattle.tile_record.proofs.record_cells.Goals as goal
 
 pub returns-in-At : goal.returns-in-At
-returns-in-At c =
-    let a = c.args in
-    refused_at _ (rw c.requires.record_lengths.grid_long at (rw c.in-At.is at c.first_bad_code.ensures)) refl
+returns-in-At c = refused_at _ (rw c.requires.record_lengths.grid_long at (rw c.in-At.is at c.first_bad_code.ensures)) refl
 
 pub scan-requires : goal.scan-requires
 scan-requires c =
     let a = c.args in
     let zeros = cleared_is a.rows a.cols c.clear.ensures c.requires.record_lengths.work1_long in
-    let laid = laid_of c.requires.tile_shape (omega arith) c.requires.record_lengths.grid_long (ap length zeros ∙ length-replicate _ 0) in record { laid = laid; counts_value = zeros; weights_fit = plain_fits laid }
+    let laid = laid_of c.requires.tile_shape (omega arith) c.requires.record_lengths.grid_long (ap length zeros ∙ length-replicate _ 0) in
+    record { laid = laid; counts_value = zeros; weights_fit = plain_fits laid }
 
 pub record_counted-requires : goal.record_counted-requires
 record_counted-requires c =
-    let counted = c.scan.ensures.counting in record { tile_shape = c.requires.tile_shape; record_lengths = record { grid_long = c.requires.record_lengths.grid_long; bytes_long = c.requires.record_lengths.bytes_long; work1_long = counted.long; work2_long = c.requires.record_lengths.work2_long }; counting = counted }
+    let counted = c.scan.ensures.counting in
+    record {
+      tile_shape = c.requires.tile_shape;
+      record_lengths = record { grid_long = c.requires.record_lengths.grid_long; bytes_long = c.requires.record_lengths.bytes_long; work1_long = counted.long; work2_long = c.requires.record_lengths.work2_long };
+      counting = counted;
+    }
 
 pub returns : goal.returns
 returns c =

@@ -13,11 +13,20 @@ use Rattle.tile_record.proofs.record_counted.Goals as goal
 
 pub loop_length-length-requires : goal.loop_length-length-requires
 loop_length-length-requires c =
-    let a = c.args in record { laid = laid_of c.requires.tile_shape (omega arith) c.requires.record_lengths.grid_long c.requires.record_lengths.grid_long; sheet_on_loop = left_on_loop a.rows a.cols a.grid.now [] a.work1.now c.requires.record_lengths.grid_long c.requires.counting (rw c.in-At.is at c.first_left.ensures) }
+    let a = c.args in
+    record {
+      laid = laid_of c.requires.tile_shape (omega arith) c.requires.record_lengths.grid_long c.requires.record_lengths.grid_long;
+      sheet_on_loop = left_on_loop a.rows a.cols a.grid.now [] a.work1.now c.requires.record_lengths.grid_long c.requires.counting (rw c.in-At.is at c.first_left.ensures);
+    }
 
 pub write_fields-requires : goal.write_fields-requires
 write_fields-requires c =
-    let a = c.args in record { free_tile = (free_tile a.rows a.cols a.tile_row a.tile_col a.grid.now a.work1.now c.requires.record_lengths.grid_long c.requires.counting (rw c.in-Nothing.is at c.first_left.ensures) c.requires.tile_shape, c.requires.record_lengths.work1_long); bytes_len = c.requires.record_lengths.bytes_long; known_value = cleared_is a.rows a.cols c.clear.ensures c.requires.record_lengths.work2_long }
+    let a = c.args in
+    record {
+      free_tile = (free_tile a.rows a.cols a.tile_row a.tile_col a.grid.now a.work1.now c.requires.record_lengths.grid_long c.requires.counting (rw c.in-Nothing.is at c.first_left.ensures) c.requires.tile_shape, c.requires.record_lengths.work1_long);
+      bytes_len = c.requires.record_lengths.bytes_long;
+      known_value = cleared_is a.rows a.cols c.clear.ensures c.requires.record_lengths.work2_long;
+    }
 
 pub returns-in-At : goal.returns-in-At
 returns-in-At c =

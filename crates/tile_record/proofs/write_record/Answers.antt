@@ -58,7 +58,11 @@ returns-then-work2-n c =
 
 pub record_cells-requires : goal.record_cells-requires
 record_cells-requires c =
-    let m = rw c.in-Fits.is at c.make.ensures in record { tile_shape = m.0; record_lengths = record { grid_long = omega (arith, m); bytes_long = omega (arith, c.border_cells.ensures); work1_long = omega (arith, m); work2_long = omega (arith, m) } }
+    let m = rw c.in-Fits.is at c.make.ensures in
+    record {
+      tile_shape = m.0;
+      record_lengths = record { grid_long = omega (arith, m); bytes_long = omega (arith, c.border_cells.ensures); work1_long = omega (arith, m); work2_long = omega (arith, m) };
+    }
 
 pub returns : goal.returns
 returns c =

@@ -45,7 +45,10 @@ bounds-known-row-in-loop-row c =
 
 pub dest_at-next-requires : goal.dest_at-next-requires
 dest_at-next-requires c =
-    record { cell = cell_on c.requires.free_tile.1 c.loop-row-test.true c.loop-row.invariant.1; grid_len = c.requires.free_tile.0.grid_long }
+    record {
+      cell = cell_on c.requires.free_tile.1 c.loop-row-test.true c.loop-row.invariant.1;
+      grid_len = c.requires.free_tile.0.grid_long;
+    }
 
 pub loop-row-smaller : goal.loop-row-smaller
 loop-row-smaller c =

@@ -22,7 +22,11 @@ put_way-next-requires c =
     let a = c.args in
     let m = c.loop-b.invariant in
     let l = c.loop-b-test.true in
-    let e = c.border_cells-cells.ensures in record { free_tile = (c.requires.free_tile.0, omega arith); known = (m.2, omega (arith, m.1.next_is, m.1.long, ways_long a.rows a.cols a.grid.now c.loop-b.b, c.requires.cols_in_bounds)) }
+    let e = c.border_cells-cells.ensures in
+    record {
+      free_tile = (c.requires.free_tile.0, omega arith);
+      known = (m.2, omega (arith, m.1.next_is, m.1.long, ways_long a.rows a.cols a.grid.now c.loop-b.b, c.requires.cols_in_bounds));
+    }
 
 pub loop-b-smaller : goal.loop-b-smaller
 loop-b-smaller c = omega (arith, c.border_cells-cells.ensures, c.loop-b-test.true)

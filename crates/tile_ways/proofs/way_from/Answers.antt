@@ -16,7 +16,11 @@ bounds-grid-r c = omega (arith, cell_below c.requires.cell.0, c.requires.cell.1)
 
 pub beside-requires : goal.beside-requires
 beside-requires c =
-    let a = c.args in record { cell = c.requires.cell.0; code_value = arrow_there a.rows a.cols a.grid.now a.r a.c c.requires.cell.0 c.requires.cell.1 c.requires.c_value }
+    let a = c.args in
+    record {
+      cell = c.requires.cell.0;
+      code_value = arrow_there a.rows a.cols a.grid.now a.r a.c c.requires.cell.0 c.requires.cell.1 c.requires.c_value;
+    }
 
 pub returns-then-beside-none : goal.returns-then-beside-none
 returns-then-beside-none c =
@@ -25,7 +29,11 @@ returns-then-beside-none c =
 
 pub border_number-requires : goal.border_number-requires
 border_number-requires c =
-    let a = c.args in record { cell = c.requires.cell.0; c_value = found_edge a.rows a.cols a.grid.now a.r a.c c.requires.cell.0 c.requires.cell.1 c.requires.c_value c.beside.ensures (omega (arith, c.if-beside-none.false)) }
+    let a = c.args in
+    record {
+      cell = c.requires.cell.0;
+      c_value = found_edge a.rows a.cols a.grid.now a.r a.c c.requires.cell.0 c.requires.cell.1 c.requires.c_value c.beside.ensures (omega (arith, c.if-beside-none.false));
+    }
 
 pub returns : goal.returns
 returns c =

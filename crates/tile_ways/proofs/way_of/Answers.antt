@@ -22,7 +22,11 @@ bounds-grid-r c = omega (arith, cell_below c.requires.free_tile.1, c.requires.fr
 
 pub returns-then-not-is_arrow : goal.returns-then-not-is_arrow
 returns-then-not-is_arrow c =
-    let a = c.args in record { same_way = found_absent a.rows a.cols a.grid.now a.r a.c c.requires.free_tile.1 c.requires.free_tile.0.grid_long (sym c.is_arrow.ensures ∙ c.if-not-is_arrow.true); known_after = c.requires.known }
+    let a = c.args in
+    record {
+      same_way = found_absent a.rows a.cols a.grid.now a.r a.c c.requires.free_tile.1 c.requires.free_tile.0.grid_long (sym c.is_arrow.ensures ∙ c.if-not-is_arrow.true);
+      known_after = c.requires.known;
+    }
 
 pub nonzero_div-e : goal.nonzero_div-e
 nonzero_div-e c = omega (arith, c.requires.free_tile.1.col_in)
@@ -33,8 +37,16 @@ nonzero_rem-e c = omega (arith, c.requires.free_tile.1.col_in)
 pub way_from-requires : goal.way_from-requires
 way_from-requires c =
     let a = c.args in
-    let at = last_cell_lem a.rows a.cols a.grid.now c.requires.free_tile.0 c.requires.free_tile.1 c.last_of-e.ensures.value in record { cell = (at.0, c.requires.free_tile.0.grid_long); c_value = ap (land_at a.grid.now) at.1 ∙ last_land a.rows a.cols a.grid.now c.requires.free_tile.0 (a.r * a.cols + a.c) (cell_below c.requires.free_tile.1) (sym (land_read a.grid.now (a.r * a.cols + a.c) (omega (arith, cell_below c.requires.free_tile.1, c.requires.free_tile.0.grid_long))) ∙ sym c.is_arrow.ensures ∙ c.if-not-is_arrow.false) }
+    let at = last_cell_lem a.rows a.cols a.grid.now c.requires.free_tile.0 c.requires.free_tile.1 c.last_of-e.ensures.value in
+    record {
+      cell = (at.0, c.requires.free_tile.0.grid_long);
+      c_value = ap (land_at a.grid.now) at.1 ∙ last_land a.rows a.cols a.grid.now c.requires.free_tile.0 (a.r * a.cols + a.c) (cell_below c.requires.free_tile.1) (sym (land_read a.grid.now (a.r * a.cols + a.c) (omega (arith, cell_below c.requires.free_tile.1, c.requires.free_tile.0.grid_long))) ∙ sym c.is_arrow.ensures ∙ c.if-not-is_arrow.false);
+    }
 
 pub returns : goal.returns
 returns c =
-    let a = c.args in record { same_way = finds_is (ap (end_way a.rows a.cols a.grid.now) (last_cell_lem a.rows a.cols a.grid.now c.requires.free_tile.0 c.requires.free_tile.1 c.last_of-e.ensures.value).1 ∙ sym (way_land a.rows a.cols a.grid.now (a.r * a.cols + a.c) (sym (land_read a.grid.now (a.r * a.cols + a.c) (omega (arith, cell_below c.requires.free_tile.1, c.requires.free_tile.0.grid_long))) ∙ sym c.is_arrow.ensures ∙ c.if-not-is_arrow.false))) c.way_from.ensures; known_after = c.last_of-e.ensures.known_after }
+    let a = c.args in
+    record {
+      same_way = finds_is (ap (end_way a.rows a.cols a.grid.now) (last_cell_lem a.rows a.cols a.grid.now c.requires.free_tile.0 c.requires.free_tile.1 c.last_of-e.ensures.value).1 ∙ sym (way_land a.rows a.cols a.grid.now (a.r * a.cols + a.c) (sym (land_read a.grid.now (a.r * a.cols + a.c) (omega (arith, cell_below c.requires.free_tile.1, c.requires.free_tile.0.grid_long))) ∙ sym c.is_arrow.ensures ∙ c.if-not-is_arrow.false))) c.way_from.ensures;
+      known_after = c.last_of-e.ensures.known_after;
+    }

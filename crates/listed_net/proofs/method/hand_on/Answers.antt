@@ -10,7 +10,11 @@ use Rattle.listed_net.proofs.method.hand_on.Goals as goal
 pub returns-then-none-t : goal.returns-then-none-t
 returns-then-none-t c =
     let a = c.args in
-    let out : length a.to.now ≤ to_at a.to.now a.p = omega (arith, c.arrow-t.ensures) in record { moved = moved_out a.to.now a.totals.now a.waiting.now c.requires.half a.p c.requires.p_in_bounds.0 c.requires.p_in_bounds.1 out; waiting_bound = moved_out_less a.to.now a.totals.now a.waiting.now c.requires.half a.p c.requires.p_in_bounds.0 c.requires.p_in_bounds.1 out }
+    let out : length a.to.now ≤ to_at a.to.now a.p = omega (arith, c.arrow-t.ensures) in
+    record {
+      moved = moved_out a.to.now a.totals.now a.waiting.now c.requires.half a.p c.requires.p_in_bounds.0 c.requires.p_in_bounds.1 out;
+      waiting_bound = moved_out_less a.to.now a.totals.now a.waiting.now c.requires.half a.p c.requires.p_in_bounds.0 c.requires.p_in_bounds.1 out;
+    }
 
 pub overflow_add-totals : goal.overflow_add-totals
 overflow_add-totals c =
@@ -39,10 +43,18 @@ pub returns-then-waiting-t-ne0 : goal.returns-then-waiting-t-ne0
 returns-then-waiting-t-ne0 c =
     let a = c.args in
     let w = c.arrow-t in
-    let l = c.if-none-t.false in record { moved = moved_wait a.to.now a.totals.now a.waiting.now c.requires.half a.p c.requires.p_in_bounds.0 c.requires.p_in_bounds.1 w.result l w.ensures _ (omega arith) (λ z. omega (arith, c.if-waiting-t-ne0.true)); waiting_bound = moved_less a.to.now a.totals.now a.waiting.now c.requires.half a.p c.requires.p_in_bounds.0 c.requires.p_in_bounds.1 w.result l w.ensures }
+    let l = c.if-none-t.false in
+    record {
+      moved = moved_wait a.to.now a.totals.now a.waiting.now c.requires.half a.p c.requires.p_in_bounds.0 c.requires.p_in_bounds.1 w.result l w.ensures _ (omega arith) (λ z. omega (arith, c.if-waiting-t-ne0.true));
+      waiting_bound = moved_less a.to.now a.totals.now a.waiting.now c.requires.half a.p c.requires.p_in_bounds.0 c.requires.p_in_bounds.1 w.result l w.ensures;
+    }
 
 pub returns : goal.returns
 returns c =
     let a = c.args in
     let w = c.arrow-t in
-    let l = c.if-none-t.false in record { moved = moved_next a.to.now a.totals.now a.waiting.now c.requires.half a.p c.requires.p_in_bounds.0 c.requires.p_in_bounds.1 w.result l w.ensures _ (omega arith) (omega (arith, c.if-waiting-t-ne0.false)); waiting_bound = moved_less a.to.now a.totals.now a.waiting.now c.requires.half a.p c.requires.p_in_bounds.0 c.requires.p_in_bounds.1 w.result l w.ensures }
+    let l = c.if-none-t.false in
+    record {
+      moved = moved_next a.to.now a.totals.now a.waiting.now c.requires.half a.p c.requires.p_in_bounds.0 c.requires.p_in_bounds.1 w.result l w.ensures _ (omega arith) (omega (arith, c.if-waiting-t-ne0.false));
+      waiting_bound = moved_less a.to.now a.totals.now a.waiting.now c.requires.half a.p c.requires.p_in_bounds.0 c.requires.p_in_bounds.1 w.result l w.ensures;
+    }

@@ -10,7 +10,9 @@ loop-k-init c =
     (omega arith, scanned_none a.to.now a.totals.now a.waiting.now c.requires)
 
 pub scan_cell-requires : goal.scan_cell-requires
-scan_cell-requires c = let m = c.loop-k.invariant.1 in record { half = m.half; k_in_bounds = (c.loop-k-test.true, m.passed) }
+scan_cell-requires c =
+    let m = c.loop-k.invariant.1 in
+    record { half = m.half; k_in_bounds = (c.loop-k-test.true, m.passed) }
 
 pub loop-k-preserved : goal.loop-k-preserved
 loop-k-preserved c =

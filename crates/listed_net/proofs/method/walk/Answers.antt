@@ -10,7 +10,9 @@ loop-p-init c =
     moved_none a.to.now a.totals.now a.waiting.now a.start c.requires.half c.requires.ready
 
 pub hand_on-p-requires : goal.hand_on-p-requires
-hand_on-p-requires c = let m = c.loop-p.invariant in record { half = m.half; p_in_bounds = (c.loop-p-test.true, m.ready) }
+hand_on-p-requires c =
+    let m = c.loop-p.invariant in
+    record { half = m.half; p_in_bounds = (c.loop-p-test.true, m.ready) }
 
 pub loop-p-smaller : goal.loop-p-smaller
 loop-p-smaller c = c.hand_on-p.ensures.waiting_bound

@@ -14,11 +14,17 @@ overflow_mul-tiles c = let a = c.args in omega (arith, c.requires.well_formed.sh
 
 pub loop-t-init : goal.loop-t-init
 loop-t-init c =
-    let a = c.args in (omega arith, filled_at (borders a.tile_rows a.tile_cols a.records.now) (leads_by a.tile_rows a.tile_cols a.records.now) (sym (before_none c.requires.well_formed)) (filled_none (borders a.tile_rows a.tile_cols a.records.now) (leads_by a.tile_rows a.tile_cols a.records.now) c.requires.leads_len))
+    let a = c.args in
+    (omega arith, filled_at (borders a.tile_rows a.tile_cols a.records.now) (leads_by a.tile_rows a.tile_cols a.records.now) (sym (before_none c.requires.well_formed)) (filled_none (borders a.tile_rows a.tile_cols a.records.now) (leads_by a.tile_rows a.tile_cols a.records.now) c.requires.leads_len))
 
 pub lead_tile-requires : goal.lead_tile-requires
 lead_tile-requires c =
-    let a = c.args in record { well_formed = c.requires.well_formed; table = c.requires.table; t_bound = c.loop-t-test.true; filled = c.loop-t.invariant.1 }
+    record {
+      well_formed = c.requires.well_formed;
+      table = c.requires.table;
+      t_bound = c.loop-t-test.true;
+      filled = c.loop-t.invariant.1;
+    }
 
 pub loop-t-preserved : goal.loop-t-preserved
 loop-t-preserved c = (omega arith, c.lead_tile.ensures)
@@ -28,4 +34,6 @@ shape_of-leads c = let a = c.args in omega (arith, c.loop-t.invariant.1.long, c.
 
 pub returns : goal.returns
 returns c =
-    let a = c.args in let e : c.loop-t.t ≡ a.tile_rows * a.tile_cols = omega (arith, c.loop-t.invariant.0) in filled_at (borders a.tile_rows a.tile_cols a.records.now) (leads_by a.tile_rows a.tile_cols a.records.now) (ap (first_of a.tile_rows a.tile_cols a.records.now) e) c.loop-t.invariant.1
+    let a = c.args in
+    let e : c.loop-t.t ≡ a.tile_rows * a.tile_cols = omega (arith, c.loop-t.invariant.0) in
+    filled_at (borders a.tile_rows a.tile_cols a.records.now) (leads_by a.tile_rows a.tile_cols a.records.now) (ap (first_of a.tile_rows a.tile_cols a.records.now) e) c.loop-t.invariant.1

@@ -14,11 +14,19 @@ overflow_mul-tiles c = let a = c.args in omega (arith, c.requires.well_formed.sh
 
 pub loop-t-init : goal.loop-t-init
 loop-t-init c =
-    let a = c.args in (omega arith, filled_at (borders a.tile_rows a.tile_cols a.records.now) (pours_by a.tile_rows a.tile_cols a.records.now) (sym (before_none c.requires.well_formed)) (filled_none (borders a.tile_rows a.tile_cols a.records.now) (pours_by a.tile_rows a.tile_cols a.records.now) c.requires.pours_len.0), filled_at (borders a.tile_rows a.tile_cols a.records.now) (own_by a.tile_rows a.tile_cols a.records.now) (sym (before_none c.requires.well_formed)) (filled_none (borders a.tile_rows a.tile_cols a.records.now) (own_by a.tile_rows a.tile_cols a.records.now) c.requires.pours_len.1))
+    let a = c.args in
+    (omega arith, filled_at (borders a.tile_rows a.tile_cols a.records.now) (pours_by a.tile_rows a.tile_cols a.records.now) (sym (before_none c.requires.well_formed)) (filled_none (borders a.tile_rows a.tile_cols a.records.now) (pours_by a.tile_rows a.tile_cols a.records.now) c.requires.pours_len.0), filled_at (borders a.tile_rows a.tile_cols a.records.now) (own_by a.tile_rows a.tile_cols a.records.now) (sym (before_none c.requires.well_formed)) (filled_none (borders a.tile_rows a.tile_cols a.records.now) (own_by a.tile_rows a.tile_cols a.records.now) c.requires.pours_len.1))
 
 pub pour_tile-requires : goal.pour_tile-requires
 pour_tile-requires c =
-    let a = c.args in record { well_formed = c.requires.well_formed; table = c.requires.table; filled = c.requires.filled; t_bound = c.loop-t-test.true; pours_so_far = c.loop-t.invariant.1; own_so_far = c.loop-t.invariant.2 }
+    record {
+      well_formed = c.requires.well_formed;
+      table = c.requires.table;
+      filled = c.requires.filled;
+      t_bound = c.loop-t-test.true;
+      pours_so_far = c.loop-t.invariant.1;
+      own_so_far = c.loop-t.invariant.2;
+    }
 
 pub loop-t-preserved : goal.loop-t-preserved
 loop-t-preserved c = (omega arith, c.pour_tile.ensures.pours_filled, c.pour_tile.ensures.own_filled)
@@ -31,4 +39,9 @@ shape_of-own c = let a = c.args in omega (arith, c.loop-t.invariant.2.long, c.re
 
 pub returns : goal.returns
 returns c =
-    let a = c.args in let e : c.loop-t.t ≡ a.tile_rows * a.tile_cols = omega (arith, c.loop-t.invariant.0) in record { pours_filled = filled_at (borders a.tile_rows a.tile_cols a.records.now) (pours_by a.tile_rows a.tile_cols a.records.now) (ap (first_of a.tile_rows a.tile_cols a.records.now) e) c.loop-t.invariant.1; own_filled = filled_at (borders a.tile_rows a.tile_cols a.records.now) (own_by a.tile_rows a.tile_cols a.records.now) (ap (first_of a.tile_rows a.tile_cols a.records.now) e) c.loop-t.invariant.2 }
+    let a = c.args in
+    let e : c.loop-t.t ≡ a.tile_rows * a.tile_cols = omega (arith, c.loop-t.invariant.0) in
+    record {
+      pours_filled = filled_at (borders a.tile_rows a.tile_cols a.records.now) (pours_by a.tile_rows a.tile_cols a.records.now) (ap (first_of a.tile_rows a.tile_cols a.records.now) e) c.loop-t.invariant.1;
+      own_filled = filled_at (borders a.tile_rows a.tile_cols a.records.now) (own_by a.tile_rows a.tile_cols a.records.now) (ap (first_of a.tile_rows a.tile_cols a.records.now) e) c.loop-t.invariant.2;
+    }

@@ -23,4 +23,8 @@ overflow_add-result-2 c =
 pub returns : goal.returns
 unfolding two_at
 returns c =
-    let a = c.args in record { value = refl; upper_bound = omega (arith, c.shared_slice_known-1.given a.i, c.shared_slice_known-2-1.given (a.i + 1)) }
+    let a = c.args in
+    record {
+      value = refl;
+      upper_bound = omega (arith, c.shared_slice_known-1.given a.i, c.shared_slice_known-2-1.given (a.i + 1));
+    }

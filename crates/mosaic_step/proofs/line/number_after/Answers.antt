@@ -14,4 +14,6 @@ pub overflow_sub-result-2 : goal.overflow_sub-result-2
 overflow_sub-result-2 c = c.requires.1 (omega (arith, c.if-j-i.false, c.if-i-j.false))
 
 pub returns : goal.returns
-returns c = let a = c.args in omega (arith, number_within a.i a.x a.j a.there (omega (arith, c.if-j-i.false, c.if-i-j.false)))
+returns c =
+    let a = c.args in
+    omega (arith, number_within a.i a.x a.j a.there (omega (arith, c.if-j-i.false, c.if-i-j.false)))

@@ -17,11 +17,17 @@ overflow_mul-tiles c = omega (arith, c.requires.well_formed.shape.tiles_most)
 
 pub loop-t-init : goal.loop-t-init
 loop-t-init c =
-    record { among = omega arith; start = sym (start_none _); number = sym (before_none c.requires.well_formed); filled = filled_none _ _ c.requires.table_len }
+    record {
+      among = omega arith;
+      start = sym (start_none _);
+      number = sym (before_none c.requires.well_formed);
+      filled = filled_none _ _ c.requires.table_len;
+    }
 
 pub overflow_cast-table : goal.overflow_cast-table
 overflow_cast-table c =
-    let w = c.requires.well_formed in omega (arith, c.loop-t.invariant.start, start_most w c.loop-t.t c.loop-t.invariant.among, w.shape.tiles_most)
+    let w = c.requires.well_formed in
+    omega (arith, c.loop-t.invariant.start, start_most w c.loop-t.t c.loop-t.invariant.among, w.shape.tiles_most)
 
 pub overflow_mul-table : goal.overflow_mul-table
 overflow_mul-table c = let w = c.requires.well_formed in omega (arith, c.loop-t-test.true, w.shape.tiles_most)
@@ -30,11 +36,14 @@ pub offset_bounds-table-t : goal.offset_bounds-table-t
 offset_bounds-table-t c = let w = c.requires.well_formed in omega (arith, c.loop-t-test.true, w.shape.tiles_most)
 
 pub bounds-table-t : goal.bounds-table-t
-bounds-table-t c = let w = c.requires.well_formed in omega (arith, c.loop-t-test.true, w.shape.tiles_most, c.loop-t.invariant.filled.long)
+bounds-table-t c =
+    let w = c.requires.well_formed in
+    omega (arith, c.loop-t-test.true, w.shape.tiles_most, c.loop-t.invariant.filled.long)
 
 pub overflow_cast-table-in-loop-t : goal.overflow_cast-table-in-loop-t
 overflow_cast-table-in-loop-t c =
-    let w = c.requires.well_formed in omega (arith, c.loop-t.invariant.number, before_most w c.loop-t.t c.loop-t.invariant.among, w.shape.tiles_most)
+    let w = c.requires.well_formed in
+    omega (arith, c.loop-t.invariant.number, before_most w c.loop-t.t c.loop-t.invariant.among, w.shape.tiles_most)
 
 pub overflow_mul-table-in-loop-t : goal.overflow_mul-table-in-loop-t
 overflow_mul-table-in-loop-t c = let w = c.requires.well_formed in omega (arith, c.loop-t-test.true, w.shape.tiles_most)
@@ -47,13 +56,18 @@ offset_bounds-table-t-in-loop-t c = let w = c.requires.well_formed in omega (ari
 
 pub bounds-table-t-in-loop-t : goal.bounds-table-t-in-loop-t
 bounds-table-t-in-loop-t c =
-    let w = c.requires.well_formed in omega (arith, c.loop-t-test.true, w.shape.tiles_most, c.loop-t.invariant.filled.long, length-set c.loop-t.table (2 * c.loop-t.t) c.loop-t.o)
+    let w = c.requires.well_formed in
+    omega (arith, c.loop-t-test.true, w.shape.tiles_most, c.loop-t.invariant.filled.long, length-set c.loop-t.table (2 * c.loop-t.t) c.loop-t.o)
 
 pub borders_at-borders-requires : goal.borders_at-borders-requires
 borders_at-borders-requires c =
     let w = c.requires.well_formed in
     let t = c.loop-t.t in
-    let o = c.loop-t.invariant.start in record { o_in_bounds = omega (arith, o, record_inside w t c.loop-t-test.true); tile_shape = rw o (tile_shape w t c.loop-t-test.true) }
+    let o = c.loop-t.invariant.start in
+    record {
+      o_in_bounds = omega (arith, o, record_inside w t c.loop-t-test.true);
+      tile_shape = rw o (tile_shape w t c.loop-t-test.true);
+    }
 
 pub overflow_add-o : goal.overflow_add-o
 overflow_add-o c =

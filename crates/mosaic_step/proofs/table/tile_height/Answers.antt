@@ -6,4 +6,7 @@ use Rattle.mosaic_step.proofs.table.tile_height.Goals as goal
 
 pub returns : goal.returns
 returns c =
-    record { value = c.two_at.ensures.value ∙ ap (rows_at c.args.records.now) c.tile_start.ensures; upper_bound = c.two_at.ensures.upper_bound }
+    record {
+      value = c.two_at.ensures.value ∙ ap (rows_at c.args.records.now) c.tile_start.ensures;
+      upper_bound = c.two_at.ensures.upper_bound;
+    }

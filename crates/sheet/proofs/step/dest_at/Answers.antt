@@ -26,7 +26,8 @@ overflow_add-row c = let s = c.requires.cell in omega (arith, spot_fits c.spot_b
 
 pub bounds-grid-row : goal.bounds-grid-row
 bounds-grid-row c =
-    let s = c.requires.cell in omega (arith, cell_below (spot_cell c.spot_beside-s.ensures s.rows_fit s.cols_fit c.if-row-rows.true))
+    let s = c.requires.cell in
+    omega (arith, cell_below (spot_cell c.spot_beside-s.ensures s.rows_fit s.cols_fit c.if-row-rows.true))
 
 pub returns-then-is_arrow-2 : goal.returns-then-is_arrow-2
 returns-then-is_arrow-2 c =

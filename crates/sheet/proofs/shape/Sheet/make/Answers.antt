@@ -7,7 +7,7 @@ use Rattle.sheet.proofs.shape.Sheet.make.Goals as goal
 
 pub overflow_mul-cells : goal.overflow_mul-cells
 overflow_mul-cells c =
-    let m = made 4096 _ _ (sym c.is_within.ensures ∙ c.if-is_within.true) (sym c.is_within-then-is_within.ensures ∙ c.if-is_within-2.true) in
+    let m = made _ _ _ (sym c.is_within.ensures ∙ c.if-is_within.true) (sym c.is_within-then-is_within.ensures ∙ c.if-is_within-2.true) in
     omega (arith, m.1)
 
 pub returns-then-is_within-2 : goal.returns-then-is_within-2
