@@ -48,7 +48,7 @@ fn seen_from(
 ) -> u64
     requires cell { Cell rows cols r c }
     requires grid_len { (length grid.now ≡ rows * cols) × (length counts.now ≡ rows * cols) }
-    requires back_value { (is_arrow back ≡ true) × (is_arrow code ≡ true) }
+    requires both_arrows { (is_arrow back ≡ true) × (is_arrow code ≡ true) }
     ensures { (result ≡ adds grid.now (weighed counts.now) (step_from rows cols (step_of back) (r * cols + c)) code) × (result ≤ 1099511627776) }
 {
     let none = rows * cols;
@@ -126,7 +126,7 @@ fn has(grid: &[u8], q: usize, code: u8) -> u64
 fn has_from(rows: usize, cols: usize, grid: &[u8], r: usize, c: usize, back: u8, code: u8) -> u64
     requires cell { Cell rows cols r c }
     requires grid_len { length grid.now ≡ rows * cols }
-    requires back_value { (is_arrow back ≡ true) × (is_arrow code ≡ true) }
+    requires both_arrows { (is_arrow back ≡ true) × (is_arrow code ≡ true) }
     ensures { (result ≡ adds grid.now one (step_from rows cols (step_of back) (r * cols + c)) code) × (result ≤ 1) }
 {
     let none = rows * cols;
@@ -175,7 +175,7 @@ fn edge_givers(rows: usize, cols: usize, grid: &[u8], r: usize, c: usize) -> u64
 pub fn giver_number(rows: usize, cols: usize, grid: &[u8], r: usize, c: usize) -> u64
     requires cell { Cell rows cols r c }
     requires grid_len { length grid.now ≡ rows * cols }
-    requires c_value { land_at grid.now (r * cols + c) ≡ true }
+    requires on_land { land_at grid.now (r * cols + c) ≡ true }
     ensures { result ≡ given (rows * cols) (dest_of rows cols grid.now) one (r * cols + c) }
 {
     if 1 <= r {
@@ -201,7 +201,7 @@ pub fn look_around(
 ) -> Around
     requires cell { Cell rows cols r c }
     requires grid_len { (length grid.now ≡ rows * cols) × (length counts.now ≡ rows * cols) }
-    requires c_value { land_at grid.now (r * cols + c) ≡ true }
+    requires on_land { land_at grid.now (r * cols + c) ≡ true }
     ensures { LooksAround rows cols grid.now counts.now (r * cols + c) result }
 {
     let all = neighbours(rows, cols, grid, counts, r, c);
@@ -222,7 +222,7 @@ pub fn givers_sum_at(
 ) -> u64
     requires cell { Cell rows cols r c }
     requires grid_len { (length grid.now ≡ rows * cols) × (length counts.now ≡ rows * cols) }
-    requires c_value { land_at grid.now (r * cols + c) ≡ true }
+    requires on_land { land_at grid.now (r * cols + c) ≡ true }
     ensures { result ≡ given (rows * cols) (dest_of rows cols grid.now) (count_at counts.now) (r * cols + c) }
 {
     neighbours(rows, cols, grid, counts, r, c) % 1099511627776
@@ -232,7 +232,7 @@ pub fn givers_sum_at(
 pub fn givers_sum(rows: usize, cols: usize, grid: &[u8], counts: &[u32], p: usize) -> u64
     requires place { Place rows cols p }
     requires grid_len { (length grid.now ≡ rows * cols) × (length counts.now ≡ rows * cols) }
-    requires p_value { land_at grid.now p ≡ true }
+    requires on_land { land_at grid.now p ≡ true }
     ensures { result ≡ given (rows * cols) (dest_of rows cols grid.now) (count_at counts.now) p }
 {
     givers_sum_at(rows, cols, grid, counts, p / cols, p % cols)

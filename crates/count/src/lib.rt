@@ -67,7 +67,7 @@ fn answer(rows: usize, cols: usize, grid: &[u8], counts: &mut [u32], outlets: us
     requires sheet_shape { SheetShape rows cols }
     requires sheet_lengths { SheetLengths rows cols grid.now counts.old }
     requires counting { Counting rows cols grid.now [] counts.old (rows * cols) }
-    requires counts_value { found rows cols grid.now counts.old ≡ outlets }
+    requires outlets_found { found rows cols grid.now counts.old ≡ outlets }
     ensures { Answered rows cols grid.now (ends (count_reply result) counts.new) }
 {
     match first_left(grid, counts) {

@@ -31,7 +31,7 @@ fn number_giver(to: &[u32], waiting: &mut [u32], q: usize)
 // How many givers each cell has, from a cleared buffer.
 pub fn number_givers(to: &[u32], waiting: &mut [u32])
     requires to_len_bound { length to.now ≤ 1000000 }
-    requires waiting_value { waiting.old ≡ replicate (length to.now) 0 }
+    requires waiting_clear { waiting.old ≡ replicate (length to.now) 0 }
     ensures { Numbered to.now waiting.new (length to.now) }
 {
     let mut q = 0;

@@ -22,7 +22,7 @@ fn gather_one(to: &[u32], totals: &[u32], sums: &mut [u32], q: usize)
 // All of it, from a cleared buffer.
 pub fn gather(to: &[u32], totals: &[u32], sums: &mut [u32])
     requires gather_lent { GatherLent to.now totals.now }
-    requires sums_value { sums.old ≡ replicate (length to.now) 0 }
+    requires sums_clear { sums.old ≡ replicate (length to.now) 0 }
     ensures { Gathered to.now totals.now sums.new (length to.now) }
 {
     let mut q = 0;

@@ -87,7 +87,7 @@ fn join_records(
     work5: &mut [u32],
 ) -> JoinReply
     requires well_formed { WellFormed tile_rows tile_cols records.now }
-    requires n_value { n ≡ borders tile_rows tile_cols records.now }
+    requires n_is { n ≡ borders tile_rows tile_cols records.now }
     ensures { Unless (JoinLengths tile_rows tile_cols records.now incoming.old (works work1.old work2.old work3.old work4.old work5.old)) (ends (reply 2 []) incoming.old (works work1.old work2.old work3.old work4.old work5.old)) (JoinExits tile_rows tile_cols records.now) (ends (join_reply result) incoming.new (works work1.new work2.new work3.new work4.new work5.new)) }
 {
     if incoming.len() != n {
@@ -153,7 +153,7 @@ fn settle(
 ) -> JoinReply
     requires well_formed { WellFormed tile_rows tile_cols records.now }
     requires net_written { NetWritten tile_rows tile_cols records.now pours.now feeds.now totals.old table.now }
-    requires incoming_value { incoming.old ≡ replicate (borders tile_rows tile_cols records.now) 0 }
+    requires incoming_clear { incoming.old ≡ replicate (borders tile_rows tile_cols records.now) 0 }
     requires waiting_len { length waiting.old ≡ borders tile_rows tile_cols records.now }
     ensures join_exits { JoinExits tile_rows tile_cols records.now (ends (join_reply result) incoming.new (cleared tile_rows tile_cols records.now)) }
     ensures totals_len { length totals.new ≡ borders tile_rows tile_cols records.now }

@@ -25,7 +25,7 @@ fn number_in_mosaic(records: &[u8], table: &[u32], t: usize, r: usize, c: usize)
     requires t_in_bounds { 2 * t + 1 < length table.now }
     requires record_in_bounds { start_in table.now t + 7 ≤ length records.now }
     requires cell { Cell (rows_at records.now (start_in table.now t)) (cols_at records.now (start_in table.now t)) r c }
-    requires c_value { edge_at (rows_at records.now (start_in table.now t)) (cols_at records.now (start_in table.now t)) r c ≡ true }
+    requires on_edge { edge_at (rows_at records.now (start_in table.now t)) (cols_at records.now (start_in table.now t)) r c ≡ true }
     ensures { result ≡ first_in table.now t + border_number (rows_at records.now (start_in table.now t)) (cols_at records.now (start_in table.now t)) (r * cols_at records.now (start_in table.now t) + c) }
 {
     let rows = tile_height(records, table, t);
@@ -48,7 +48,7 @@ pub fn onto(
 ) -> usize
     requires well_formed { WellFormed tile_rows tile_cols records.now }
     requires table { Table tile_rows tile_cols records.now table.now }
-    requires borders_value { borders ≡ all_borders tile_rows tile_cols (heights records.now tile_cols) (widths records.now) }
+    requires borders_is { borders ≡ all_borders tile_rows tile_cols (heights records.now tile_cols) (widths records.now) }
     requires tile_is { TileIs tile_rows tile_cols t tile_row tile_col }
     requires exit { Exit records.now t b }
     ensures { result ≡ J.onto tile_rows tile_cols (heights records.now tile_cols) (widths records.now) (said_code records.now tile_rows tile_cols) (borders_before tile_cols (heights records.now tile_cols) (widths records.now) t + b) }

@@ -164,7 +164,7 @@ fn scan_row(
 // Scans the cells by place, from cleared counts. Answers how many outlets were counted.
 pub fn scan(rows: usize, cols: usize, grid: &[u8], more: &[u32], counts: &mut [u32]) -> usize
     requires laid { Laid rows cols grid.now counts.old }
-    requires counts_value { counts.old ≡ replicate (rows * cols) 0 }
+    requires counts_clear { counts.old ≡ replicate (rows * cols) 0 }
     requires weights_fit { WeightsFit rows cols grid.now more.now }
     ensures counting { Counting rows cols grid.now more.now counts.new (rows * cols) }
     ensures counts_after { found rows cols grid.now counts.new ≡ result }

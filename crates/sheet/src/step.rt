@@ -49,7 +49,7 @@ pub fn col_after(x: usize, code: u8) -> usize
 // The spot one step of an arrow from row r and column c, or (rows, 0).
 fn spot_beside(rows: usize, cols: usize, r: usize, c: usize, code: u8) -> Spot
     requires cell { Cell rows cols r c }
-    requires code_value { is_arrow code ≡ true }
+    requires code_is_arrow { is_arrow code ≡ true }
     ensures { SpotOf rows cols result (step_from rows cols (step_of code) (r * cols + c)) }
 {
     let down = row_after(r, code);
@@ -68,7 +68,7 @@ fn spot_beside(rows: usize, cols: usize, r: usize, c: usize, code: u8) -> Spot
 // The place one step of an arrow from row r and column c, or rows * cols.
 pub fn beside(rows: usize, cols: usize, r: usize, c: usize, code: u8) -> usize
     requires cell { Cell rows cols r c }
-    requires code_value { is_arrow code ≡ true }
+    requires code_is_arrow { is_arrow code ≡ true }
     ensures { result ≡ step_from rows cols (step_of code) (r * cols + c) }
 {
     let s = spot_beside(rows, cols, r, c, code);

@@ -23,7 +23,7 @@ pub fn border_cells(rows: usize, cols: usize) -> usize
 // The number of the border cell of row r and column c. Before row r stand the first row and two cells of each row between.
 pub fn border_number(rows: usize, cols: usize, r: usize, c: usize) -> usize
     requires cell { Cell rows cols r c }
-    requires c_value { edge_at rows cols r c ≡ true }
+    requires on_edge { edge_at rows cols r c ≡ true }
     ensures { result ≡ border_number rows cols (r * cols + c) }
 {
     if cols == 1 {

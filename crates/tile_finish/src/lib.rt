@@ -115,7 +115,7 @@ fn first_bad_incoming(rows: usize, cols: usize, grid: &[u8], incoming: &[u32]) -
 fn spread(rows: usize, cols: usize, incoming: &[u32], work: &mut [u32])
     requires tile_shape { TileShape rows cols }
     requires incoming_len { length incoming.now ≡ border_cells rows cols }
-    requires work_value { work.old ≡ replicate (rows * cols) 0 }
+    requires work_clear { work.old ≡ replicate (rows * cols) 0 }
     ensures { Spread rows cols incoming.now work.new (border_cells rows cols) }
 {
     let mut b = 0;

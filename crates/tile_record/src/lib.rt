@@ -148,7 +148,7 @@ fn write_fields(
 )
     requires free_tile { FreeTile rows cols grid.now × (length counts.now ≡ rows * cols) }
     requires bytes_len { length bytes.old ≡ record_length rows cols }
-    requires known_value { known.old ≡ cleared rows cols }
+    requires known_clear { known.old ≡ cleared rows cols }
     ensures { bytes.new ≡ record_bytes rows cols tile_row tile_col grid.now counts.now }
 {
     let second = write_sides(bytes, 0, rows, cols, tile_row, tile_col);

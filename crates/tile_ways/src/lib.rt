@@ -54,7 +54,7 @@ fn mark_path(
 )
     requires free_tile { FreeTile rows cols grid.now × Cell rows cols r c }
     requires known { Known rows cols grid.now known.old }
-    requires last_value { last ≡ last_cell rows cols grid.now (r * cols + c) + 1 }
+    requires last_is { last ≡ last_cell rows cols grid.now (r * cols + c) + 1 }
     ensures { Known rows cols grid.now known.new }
 {
     let mut row = r;
@@ -85,7 +85,7 @@ fn last_of(rows: usize, cols: usize, grid: &[u8], known: &mut [u32], r: usize, c
 // The way of a path whose last cell is at row r and column c: over the edge there, or it ends inside.
 fn way_from(rows: usize, cols: usize, grid: &[u8], r: usize, c: usize) -> BorderWay
     requires cell { Cell rows cols r c × (length grid.now ≡ rows * cols) }
-    requires c_value { land_at grid.now (r * cols + c) ≡ true }
+    requires on_land { land_at grid.now (r * cols + c) ≡ true }
     ensures { SameWay (end_way rows cols grid.now (r * cols + c)) result }
 {
     let none = rows * cols;

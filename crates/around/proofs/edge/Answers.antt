@@ -12,7 +12,7 @@ seen_from-east-requires c =
     record {
       cell = c.requires.cell;
       grid_len = c.requires.grid_len;
-      back_value = (line_arrow 4 (omega arith), line_arrow 0 (omega arith));
+      both_arrows = (line_arrow 4 (omega arith), line_arrow 0 (omega arith));
     }
 
 pub seen_from-south_east-requires : goal.seen_from-south_east-requires
@@ -20,7 +20,7 @@ seen_from-south_east-requires c =
     record {
       cell = c.requires.cell;
       grid_len = c.requires.grid_len;
-      back_value = (line_arrow 5 (omega arith), line_arrow 1 (omega arith));
+      both_arrows = (line_arrow 5 (omega arith), line_arrow 1 (omega arith));
     }
 
 pub seen_from-south-requires : goal.seen_from-south-requires
@@ -28,7 +28,7 @@ seen_from-south-requires c =
     record {
       cell = c.requires.cell;
       grid_len = c.requires.grid_len;
-      back_value = (line_arrow 6 (omega arith), line_arrow 2 (omega arith));
+      both_arrows = (line_arrow 6 (omega arith), line_arrow 2 (omega arith));
     }
 
 pub seen_from-south_west-requires : goal.seen_from-south_west-requires
@@ -36,7 +36,7 @@ seen_from-south_west-requires c =
     record {
       cell = c.requires.cell;
       grid_len = c.requires.grid_len;
-      back_value = (line_arrow 7 (omega arith), line_arrow 3 (omega arith));
+      both_arrows = (line_arrow 7 (omega arith), line_arrow 3 (omega arith));
     }
 
 pub seen_from-west-requires : goal.seen_from-west-requires
@@ -44,7 +44,7 @@ seen_from-west-requires c =
     record {
       cell = c.requires.cell;
       grid_len = c.requires.grid_len;
-      back_value = (line_arrow 0 (omega arith), line_arrow 4 (omega arith));
+      both_arrows = (line_arrow 0 (omega arith), line_arrow 4 (omega arith));
     }
 
 pub seen_from-north_west-requires : goal.seen_from-north_west-requires
@@ -52,7 +52,7 @@ seen_from-north_west-requires c =
     record {
       cell = c.requires.cell;
       grid_len = c.requires.grid_len;
-      back_value = (line_arrow 1 (omega arith), line_arrow 5 (omega arith));
+      both_arrows = (line_arrow 1 (omega arith), line_arrow 5 (omega arith));
     }
 
 pub seen_from-north-requires : goal.seen_from-north-requires
@@ -60,7 +60,7 @@ seen_from-north-requires c =
     record {
       cell = c.requires.cell;
       grid_len = c.requires.grid_len;
-      back_value = (line_arrow 2 (omega arith), line_arrow 6 (omega arith));
+      both_arrows = (line_arrow 2 (omega arith), line_arrow 6 (omega arith));
     }
 
 pub seen_from-north_east-requires : goal.seen_from-north_east-requires
@@ -68,7 +68,7 @@ seen_from-north_east-requires c =
     record {
       cell = c.requires.cell;
       grid_len = c.requires.grid_len;
-      back_value = (line_arrow 3 (omega arith), line_arrow 7 (omega arith));
+      both_arrows = (line_arrow 3 (omega arith), line_arrow 7 (omega arith));
     }
 
 pub returns : goal.returns

@@ -26,9 +26,9 @@ inner_givers-requires c =
 pub returns-then-c-cols : goal.returns-then-c-cols
 returns-then-c-cols c =
     let a = c.args in
-    c.inner_givers.ensures ∙ sym (bridge a.rows a.cols a.grid.now one (a.r * a.cols + a.c) (cell_place c.requires.cell) c.requires.grid_len ∙ on_true _ c.requires.c_value)
+    c.inner_givers.ensures ∙ sym (bridge a.rows a.cols a.grid.now one (a.r * a.cols + a.c) (cell_place c.requires.cell) c.requires.grid_len ∙ on_true _ c.requires.on_land)
 
 pub returns : goal.returns
 returns c =
     let a = c.args in
-    c.edge_givers.ensures ∙ sym (bridge a.rows a.cols a.grid.now one (a.r * a.cols + a.c) (cell_place c.requires.cell) c.requires.grid_len ∙ on_true _ c.requires.c_value)
+    c.edge_givers.ensures ∙ sym (bridge a.rows a.cols a.grid.now one (a.r * a.cols + a.c) (cell_place c.requires.cell) c.requires.grid_len ∙ on_true _ c.requires.on_land)

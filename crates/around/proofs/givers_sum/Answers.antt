@@ -18,7 +18,7 @@ pub givers_sum_at-requires : goal.givers_sum_at-requires
 givers_sum_at-requires c =
     let a = c.args in
     let p = place_of_cell c.requires.place in
-    record { cell = p.0; grid_len = c.requires.grid_len; c_value = ap (land_at a.grid.now) p.1 ∙ c.requires.p_value }
+    record { cell = p.0; grid_len = c.requires.grid_len; on_land = ap (land_at a.grid.now) p.1 ∙ c.requires.on_land }
 
 pub returns : goal.returns
 returns c =

@@ -14,6 +14,6 @@ pub returns : goal.returns
 returns c =
     let a = c.args in (
       adds_from a.grid.now one a.code c.beside-q.ensures
-          (adds_beyond a.grid.now one c.beside-q.result a.code (omega arith) c.requires.back_value.1),
+          (adds_beyond a.grid.now one c.beside-q.result a.code (omega arith) c.requires.both_arrows.1),
       omega arith,
     )

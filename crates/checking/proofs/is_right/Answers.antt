@@ -33,7 +33,7 @@ givers_sum_at-requires c =
     record {
       cell = c.requires.cell;
       grid_len = (c.requires.laid.grid_long, c.requires.laid.counts_long);
-      c_value = (sym (land_read a.grid.now (a.r * a.cols + a.c) (omega (arith, cell_below c.requires.cell))) ∙ sym c.is_arrow.ensures ∙ c.if-is_arrow.true);
+      on_land = (sym (land_read a.grid.now (a.r * a.cols + a.c) (omega (arith, cell_below c.requires.cell))) ∙ sym c.is_arrow.ensures ∙ c.if-is_arrow.true);
     }
 
 pub overflow_add-result : goal.overflow_add-result

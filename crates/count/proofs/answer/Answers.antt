@@ -21,4 +21,4 @@ returns-in-At c =
 pub returns-in-Nothing : goal.returns-in-Nothing
 returns-in-Nothing c =
     let a = c.args in
-    answers_done a.rows a.cols a.grid.now a.counts.now c.requires.sheet_lengths.grid_long c.requires.counting (rw c.in-Nothing.is at c.first_left.ensures) c.land_number-land.ensures c.requires.counts_value c.greatest-most.ensures
+    answers_done a.rows a.cols a.grid.now a.counts.now c.requires.sheet_lengths.grid_long c.requires.counting (rw c.in-Nothing.is at c.first_left.ensures) c.land_number-land.ensures c.requires.outlets_found c.greatest-most.ensures

@@ -16,7 +16,7 @@ pub scan-outlets-requires : goal.scan-outlets-requires
 scan-outlets-requires c =
     let cleared = c.clear.ensures ∙ ap (λ (n : ℕ). replicate n 0) c.requires.sheet_lengths.counts_long in
     let laid = laid_of c.requires.sheet_shape (omega arith) c.requires.sheet_lengths.grid_long (ap length cleared ∙ length-replicate _ 0) in
-    record { laid = laid; counts_value = cleared; weights_fit = plain_fits laid }
+    record { laid = laid; counts_clear = cleared; weights_fit = plain_fits laid }
 
 pub returns : goal.returns
 returns c = met_all (rw c.requires.sheet_lengths.grid_long at (rw c.in_default.is at c.first_bad_code.ensures)) c.answer.ensures

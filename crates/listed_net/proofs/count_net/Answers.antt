@@ -10,7 +10,7 @@ pub number_givers-requires : goal.number_givers-requires
 number_givers-requires c =
     record {
       to_len_bound = c.requires.cells_most;
-      waiting_value = c.clear.ensures ∙ ap (λ (n : ℕ). replicate n 0) c.requires.waiting_long;
+      waiting_clear = c.clear.ensures ∙ ap (λ (n : ℕ). replicate n 0) c.requires.waiting_long;
     }
 
 pub scan-requires : goal.scan-requires

@@ -22,7 +22,7 @@ givers_sum-own-requires c =
     record {
       place = place_of laid c.requires.place_bound;
       grid_len = (laid.grid_long, laid.counts_long);
-      p_value = put_land a.rows a.cols a.grid.now a.counts.now a.place a.code c.requires.laid c.requires.place_bound c.requires.sheet_counts arrow;
+      on_land = put_land a.rows a.cols a.grid.now a.counts.now a.place a.code c.requires.laid c.requires.place_bound c.requires.sheet_counts arrow;
     }
 
 pub overflow_add-own : goal.overflow_add-own

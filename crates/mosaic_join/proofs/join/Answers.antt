@@ -33,7 +33,7 @@ join_records-requires c =
     let a = c.args in
     let f = read_found a.tile_rows a.tile_cols a.records.now (rw c.in-Good.is at c.read_records.ensures) in
     let w = read_well a.tile_rows a.tile_cols a.records.now (shape_of a.tile_rows a.tile_cols c.if-tiles-eq0.false c.if-tiles-gt64.false) f in
-    record { well_formed = w; n_value = f.all ∙ sym (borders_read a.tile_rows a.tile_cols a.records.now w) }
+    record { well_formed = w; n_is = f.all ∙ sym (borders_read a.tile_rows a.tile_cols a.records.now w) }
 
 pub returns-in-Good : goal.returns-in-Good
 returns-in-Good c =

@@ -22,7 +22,7 @@ settle-r-requires c =
     record {
       well_formed = c.requires.well_formed;
       net_written = n.net_written;
-      incoming_value = n.leads_after;
+      incoming_clear = n.leads_after;
       waiting_len = c.requires.join_lengths.work4_long;
     }
 

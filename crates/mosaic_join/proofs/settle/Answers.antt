@@ -40,7 +40,7 @@ gather-requires c =
     let k = rw c.in-Done.is at c.count_net.ensures in
     record {
       gather_lent = gather_lent a.tile_rows a.tile_cols a.records.now c.requires.well_formed a.feeds.now a.totals.now c.requires.net_written.feeds_are c.requires.net_written.own_are a.pours.now _ c.requires.net_written.pours_are k.answers k.totals_long;
-      sums_value = c.requires.incoming_value ∙ ap (λ (n : ℕ). replicate n 0) (sym c.requires.net_written.pours_are.long);
+      sums_clear = c.requires.incoming_clear ∙ ap (λ (n : ℕ). replicate n 0) (sym c.requires.net_written.pours_are.long);
     }
 
 pub returns-in-Loop : goal.returns-in-Loop
@@ -49,7 +49,7 @@ returns-in-Loop c =
     let k = rw c.in-Loop.is at c.count_net.ensures in
     let l = (loop_is a.tile_rows a.tile_cols a.records.now c.requires.well_formed a.feeds.now a.totals.now c.requires.net_written.feeds_are c.requires.net_written.own_are k.answers).here.0 in
     record {
-      join_exits = answers_loop a.tile_rows a.tile_cols a.records.now c.requires.well_formed a.feeds.now a.totals.now c.requires.net_written.feeds_are c.requires.net_written.own_are k.answers c.tile_of-tile.ensures (number_left a.tile_rows a.tile_cols a.records.now c.requires.well_formed _ l a.table.now c.requires.net_written.table_is c.tile_of-tile.ensures c.first_border.ensures) c.requires.incoming_value refl;
+      join_exits = answers_loop a.tile_rows a.tile_cols a.records.now c.requires.well_formed a.feeds.now a.totals.now c.requires.net_written.feeds_are c.requires.net_written.own_are k.answers c.tile_of-tile.ensures (number_left a.tile_rows a.tile_cols a.records.now c.requires.well_formed _ l a.table.now c.requires.net_written.table_is c.tile_of-tile.ensures c.first_border.ensures) c.requires.incoming_clear refl;
       totals_len = k.totals_long ∙ c.requires.net_written.feeds_are.long;
       waiting_stays = k.waiting_long ∙ c.requires.net_written.feeds_are.long;
     }

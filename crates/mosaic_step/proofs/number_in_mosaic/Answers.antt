@@ -6,7 +6,7 @@ use Rattle.mosaic_step.proofs.Tabled.{number_small, number_by}
 use Rattle.mosaic_step.proofs.number_in_mosaic.Goals as goal
 
 pub border_number-requires : goal.border_number-requires
-border_number-requires c = rw (c.tile_height-rows.ensures.value, c.tile_width-cols.ensures.value) (record { cell = c.requires.cell; c_value = c.requires.c_value })
+border_number-requires c = rw (c.tile_height-rows.ensures.value, c.tile_width-cols.ensures.value) (record { cell = c.requires.cell; on_edge = c.requires.on_edge })
 
 pub overflow_add-result : goal.overflow_add-result
 overflow_add-result c =

@@ -57,7 +57,7 @@ pub returns-then-tile_rows-i : goal.returns-then-tile_rows-i
 returns-then-tile_rows-i c =
     let read = standing c.requires.well_formed c.requires.table c.requires.tile_is c.requires.exit c.tile_height-rows.ensures.value c.tile_width-cols.ensures.value c.tile_start.ensures c.border_cells.ensures c.border_spot-spot.ensures.spot_of c.border_spot-spot.ensures.row_lt_rows c.cell_code-code.ensures in
     let row_piece : c.piece_after-i.result ≡ piece_after c.args.tile_rows c.args.tile_row c.tile_height-rows.result c.row_after-down.result = omega (arith, c.piece_after-i.ensures) in
-    c.requires.borders_value ∙ sym (off_rows c.requires.well_formed c.requires.tile_is c.requires.exit read c.row_after-down.ensures row_piece (omega (arith, c.if-tile_rows-i.true)))
+    c.requires.borders_is ∙ sym (off_rows c.requires.well_formed c.requires.tile_is c.requires.exit read c.row_after-down.ensures row_piece (omega (arith, c.if-tile_rows-i.true)))
 
 pub col_after-right-requires : goal.col_after-right-requires
 col_after-right-requires c =
@@ -72,7 +72,7 @@ returns-then-tile_cols-j c =
     let read = standing c.requires.well_formed c.requires.table c.requires.tile_is c.requires.exit c.tile_height-rows.ensures.value c.tile_width-cols.ensures.value c.tile_start.ensures c.border_cells.ensures c.border_spot-spot.ensures.spot_of c.border_spot-spot.ensures.row_lt_rows c.cell_code-code.ensures in
     let row_piece : c.piece_after-i.result ≡ piece_after c.args.tile_rows c.args.tile_row c.tile_height-rows.result c.row_after-down.result = omega (arith, c.piece_after-i.ensures) in
     let col_piece : c.piece_after-j.result ≡ piece_after c.args.tile_cols c.args.tile_col c.tile_width-cols.result c.col_after-right.result = omega (arith, c.piece_after-j.ensures) in
-    c.requires.borders_value
+    c.requires.borders_is
     ∙ sym (off_cols c.requires.well_formed c.requires.tile_is c.requires.exit read c.row_after-down.ensures row_piece c.col_after-right.ensures col_piece (omega (arith, c.if-tile_cols-j.true)))
 
 pub overflow_mul-s : goal.overflow_mul-s
@@ -139,7 +139,7 @@ number_in_mosaic-requires c =
       t_in_bounds = slot_in c.requires.well_formed c.requires.table next inside;
       record_in_bounds = sides_in c.requires.well_formed c.requires.table next inside;
       cell = found_cell c.requires.well_formed c.requires.table found;
-      c_value = found_edge c.requires.well_formed c.requires.table found;
+      on_edge = found_edge c.requires.well_formed c.requires.table found;
     }
 
 pub returns : goal.returns

@@ -11,7 +11,7 @@ look_around-requires c =
     record {
       cell = c.requires.laid.1;
       grid_len = (c.requires.laid.0.grid_long, c.requires.laid.0.counts_long);
-      c_value = (c.requires.to_count (cell_below c.requires.laid.1)).0;
+      on_land = (c.requires.to_count (cell_below c.requires.laid.1)).0;
     }
 
 pub settle-requires : goal.settle-requires

@@ -12,7 +12,7 @@ use Rattle.scan.proofs.scan.Goals as goal
 pub loop-r-init : goal.loop-r-init
 loop-r-init c =
     let a = c.args in
-    (omega arith, scan_place_on a.rows a.cols a.grid.now a.more.now a.counts.now (omega arith) (scan_begins a.rows a.cols a.grid.now a.more.now c.requires.weights_fit c.requires.counts_value), none_found a.rows a.cols a.grid.now a.more.now c.requires.counts_value)
+    (omega arith, scan_place_on a.rows a.cols a.grid.now a.more.now a.counts.now (omega arith) (scan_begins a.rows a.cols a.grid.now a.more.now c.requires.weights_fit c.requires.counts_clear), none_found a.rows a.cols a.grid.now a.more.now c.requires.counts_clear)
 
 pub scan_row-n-requires : goal.scan_row-n-requires
 scan_row-n-requires c =

@@ -46,7 +46,7 @@ giver_number-requires c =
     record {
       cell = c.requires.laid.1;
       grid_len = c.requires.laid.0.grid_long;
-      c_value = (sym (land_read a.grid.now (a.r * a.cols + a.c) (omega (arith, cell_below c.requires.laid.1, c.requires.laid.0.grid_long))) ∙ sym c.is_arrow.ensures ∙ c.if-not-is_arrow.false);
+      on_land = (sym (land_read a.grid.now (a.r * a.cols + a.c) (omega (arith, cell_below c.requires.laid.1, c.requires.laid.0.grid_long))) ∙ sym c.is_arrow.ensures ∙ c.if-not-is_arrow.false);
     }
 
 pub returns-then-giver_number-ne0 : goal.returns-then-giver_number-ne0

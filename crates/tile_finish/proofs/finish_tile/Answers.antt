@@ -13,7 +13,7 @@ spread-requires c =
     record {
       tile_shape = c.requires.tile_shape;
       incoming_len = c.requires.finish_lengths.incoming_long;
-      work_value = c.clear.ensures ∙ ap (λ (n : ℕ). replicate n 0) c.requires.finish_lengths.work_long;
+      work_clear = c.clear.ensures ∙ ap (λ (n : ℕ). replicate n 0) c.requires.finish_lengths.work_long;
     }
 
 pub scan-requires : goal.scan-requires
@@ -22,7 +22,7 @@ scan-requires c =
     let cleared = c.clear-2.ensures ∙ ap (λ (n : ℕ). replicate n 0) c.requires.finish_lengths.counts_long in
     record {
       laid = laid_of c.requires.tile_shape (omega arith) c.requires.finish_lengths.grid_long (ap length cleared ∙ length-replicate _ 0);
-      counts_value = cleared;
+      counts_clear = cleared;
       weights_fit = weights_fit a.rows a.cols a.grid.now a.incoming.now c.requires.all_may_come_in _ c.spread.ensures c.requires.tile_shape;
     }
 

@@ -13,7 +13,7 @@ use Rattle.tile_finish.proofs.Laying.{spread_none, spread_next}
 use Rattle.tile_finish.proofs.spread.Goals as goal
 
 pub loop-b-init : goal.loop-b-init
-loop-b-init c = (omega arith, spread_none c.args.rows c.args.cols c.args.incoming.now c.requires.work_value)
+loop-b-init c = (omega arith, spread_none c.args.rows c.args.cols c.args.incoming.now c.requires.work_clear)
 
 pub border_spot-s-requires : goal.border_spot-s-requires
 border_spot-s-requires c = record { tile_shape = c.requires.tile_shape; b_bound = omega (arith, c.requires.incoming_len, c.loop-b-test.true) }
@@ -46,7 +46,7 @@ loop-b-preserved c =
 
 pub shape_of-work : goal.shape_of-work
 shape_of-work c =
-    omega (arith, c.loop-b.invariant.1.long, ap length c.requires.work_value, length-replicate {A = ℕ} (c.args.rows * c.args.cols) 0)
+    omega (arith, c.loop-b.invariant.1.long, ap length c.requires.work_clear, length-replicate {A = ℕ} (c.args.rows * c.args.cols) 0)
 
 pub returns : goal.returns
 returns c =

@@ -17,7 +17,7 @@ scan-requires c =
     let a = c.args in
     let zeros = cleared_is a.rows a.cols c.clear.ensures c.requires.record_lengths.work1_long in
     let laid = laid_of c.requires.tile_shape (omega arith) c.requires.record_lengths.grid_long (ap length zeros ∙ length-replicate _ 0) in
-    record { laid = laid; counts_value = zeros; weights_fit = plain_fits laid }
+    record { laid = laid; counts_clear = zeros; weights_fit = plain_fits laid }
 
 pub record_counted-requires : goal.record_counted-requires
 record_counted-requires c =

@@ -25,7 +25,7 @@ write_fields-requires c =
     record {
       free_tile = (free_tile a.rows a.cols a.tile_row a.tile_col a.grid.now a.work1.now c.requires.record_lengths.grid_long c.requires.counting (rw c.in-Nothing.is at c.first_left.ensures) c.requires.tile_shape, c.requires.record_lengths.work1_long);
       bytes_len = c.requires.record_lengths.bytes_long;
-      known_value = cleared_is a.rows a.cols c.clear.ensures c.requires.record_lengths.work2_long;
+      known_clear = cleared_is a.rows a.cols c.clear.ensures c.requires.record_lengths.work2_long;
     }
 
 pub returns-in-At : goal.returns-in-At

@@ -11,7 +11,7 @@ pub write_ways-requires : goal.write_ways-requires
 write_ways-requires c =
     let a = c.args in
     record {
-      free_tile = (c.requires.free_tile.0, known_none a.rows a.cols a.grid.now c.requires.known_value);
+      free_tile = (c.requires.free_tile.0, known_none a.rows a.cols a.grid.now c.requires.known_clear);
       cols_in_bounds = omega (arith, c.write_sides-second.ensures.next_is, c.write_sides-second.ensures.long, c.write_counts-third.ensures.next_is, c.write_counts-third.ensures.long, counts_long a.rows a.cols a.counts.now (border_cells a.rows a.cols), c.requires.bytes_len);
     }
 

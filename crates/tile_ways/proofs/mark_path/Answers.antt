@@ -9,7 +9,7 @@ use Rattle.tile_ways.proofs.mark_path.Goals as goal
 
 pub loop-row-init : goal.loop-row-init
 loop-row-init c =
-    (omega (arith, c.requires.free_tile.1.row_in), c.requires.free_tile.1.col_in, λ l. sym c.requires.last_value, c.requires.known)
+    (omega (arith, c.requires.free_tile.1.row_in), c.requires.free_tile.1.col_in, λ l. sym c.requires.last_is, c.requires.known)
 
 pub overflow_mul-row : goal.overflow_mul-row
 overflow_mul-row c = omega (arith, cell_fits (cell_on c.requires.free_tile.1 c.loop-row-test.true c.loop-row.invariant.1))

@@ -19,23 +19,23 @@ beside-requires c =
     let a = c.args in
     record {
       cell = c.requires.cell.0;
-      code_value = arrow_there a.rows a.cols a.grid.now a.r a.c c.requires.cell.0 c.requires.cell.1 c.requires.c_value;
+      code_is_arrow = arrow_there a.rows a.cols a.grid.now a.r a.c c.requires.cell.0 c.requires.cell.1 c.requires.on_land;
     }
 
 pub returns-then-beside-none : goal.returns-then-beside-none
 returns-then-beside-none c =
     let a = c.args in
-    found_inside a.rows a.cols a.grid.now a.r a.c c.requires.cell.0 c.requires.cell.1 c.requires.c_value c.beside.ensures (omega (arith, c.if-beside-none.true))
+    found_inside a.rows a.cols a.grid.now a.r a.c c.requires.cell.0 c.requires.cell.1 c.requires.on_land c.beside.ensures (omega (arith, c.if-beside-none.true))
 
 pub border_number-requires : goal.border_number-requires
 border_number-requires c =
     let a = c.args in
     record {
       cell = c.requires.cell.0;
-      c_value = found_edge a.rows a.cols a.grid.now a.r a.c c.requires.cell.0 c.requires.cell.1 c.requires.c_value c.beside.ensures (omega (arith, c.if-beside-none.false));
+      on_edge = found_edge a.rows a.cols a.grid.now a.r a.c c.requires.cell.0 c.requires.cell.1 c.requires.on_land c.beside.ensures (omega (arith, c.if-beside-none.false));
     }
 
 pub returns : goal.returns
 returns c =
     let a = c.args in
-    found_over a.rows a.cols a.grid.now a.r a.c c.requires.cell.0 c.requires.cell.1 c.requires.c_value c.beside.ensures (omega (arith, c.if-beside-none.false)) c.border_number.ensures
+    found_over a.rows a.cols a.grid.now a.r a.c c.requires.cell.0 c.requires.cell.1 c.requires.on_land c.beside.ensures (omega (arith, c.if-beside-none.false)) c.border_number.ensures

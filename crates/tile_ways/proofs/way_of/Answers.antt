@@ -40,7 +40,7 @@ way_from-requires c =
     let at = last_cell_lem a.rows a.cols a.grid.now c.requires.free_tile.0 c.requires.free_tile.1 c.last_of-e.ensures.value in
     record {
       cell = (at.0, c.requires.free_tile.0.grid_long);
-      c_value = ap (land_at a.grid.now) at.1 ∙ last_land a.rows a.cols a.grid.now c.requires.free_tile.0 (a.r * a.cols + a.c) (cell_below c.requires.free_tile.1) (sym (land_read a.grid.now (a.r * a.cols + a.c) (omega (arith, cell_below c.requires.free_tile.1, c.requires.free_tile.0.grid_long))) ∙ sym c.is_arrow.ensures ∙ c.if-not-is_arrow.false);
+      on_land = ap (land_at a.grid.now) at.1 ∙ last_land a.rows a.cols a.grid.now c.requires.free_tile.0 (a.r * a.cols + a.c) (cell_below c.requires.free_tile.1) (sym (land_read a.grid.now (a.r * a.cols + a.c) (omega (arith, cell_below c.requires.free_tile.1, c.requires.free_tile.0.grid_long))) ∙ sym c.is_arrow.ensures ∙ c.if-not-is_arrow.false);
     }
 
 pub returns : goal.returns

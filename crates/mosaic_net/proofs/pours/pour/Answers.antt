@@ -25,7 +25,7 @@ onto-h-requires c =
     record {
       well_formed = c.requires.well_formed;
       table = c.requires.table;
-      borders_value = c.requires.filled.long;
+      borders_is = c.requires.filled.long;
       tile_is = c.requires.tile_is;
       exit = exit_of a.tile_rows a.tile_cols a.records.now c.requires.well_formed a.t a.o a.n a.first c.requires.record_at a.b c.requires.b_lt_n (sym c.cell_way.ensures ∙ c.if-cell_way-b.false);
     }

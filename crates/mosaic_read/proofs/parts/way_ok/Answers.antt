@@ -57,7 +57,7 @@ beside-requires c =
     let shape = c.requires.tile_of.shape in
     record {
       cell = spot_cell c.border_spot-s.ensures.spot_of (omega (arith, shape.rows_most)) (omega (arith, shape.cols_most)) c.border_spot-s.ensures.row_lt_rows;
-      code_value = sym c.is_arrow.ensures ∙ c.if-not-is_arrow.false;
+      code_is_arrow = sym c.is_arrow.ensures ∙ c.if-not-is_arrow.false;
     }
 
 pub returns : goal.returns

@@ -16,7 +16,7 @@ pub bounds-grid-r : goal.bounds-grid-r
 bounds-grid-r c = omega (arith, cell_below c.requires.cell)
 
 pub spot_beside-s-requires : goal.spot_beside-s-requires
-spot_beside-s-requires c = record { cell = c.requires.cell; code_value = (sym c.is_arrow.ensures ∙ c.if-is_arrow.true) }
+spot_beside-s-requires c = record { cell = c.requires.cell; code_is_arrow = (sym c.is_arrow.ensures ∙ c.if-is_arrow.true) }
 
 pub overflow_mul-row : goal.overflow_mul-row
 overflow_mul-row c = let s = c.requires.cell in omega (arith, spot_fits c.spot_beside-s.ensures s.rows_fit s.cols_fit)

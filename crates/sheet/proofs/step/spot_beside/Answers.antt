@@ -16,14 +16,14 @@ overflow_sub-result-then-is_within-2 c = (within_true _ _ (sym c.is_within-then-
 pub returns-then-is_within-2 : goal.returns-then-is_within-2
 returns-then-is_within-2 c =
     spot_on c.args.rows c.args.cols _ _ (sym c.is_within.ensures ∙ c.if-is_within.true) (sym c.is_within-then-is_within.ensures ∙ c.if-is_within-2.true)
-    (step_on _ _ _ _ _ c.requires.code_value c.requires.cell.col_in c.row_after-down.ensures c.col_after-right.ensures (sym c.is_within.ensures ∙ c.if-is_within.true) (sym c.is_within-then-is_within.ensures ∙ c.if-is_within-2.true))
+    (step_on _ _ _ _ _ c.requires.code_is_arrow c.requires.cell.col_in c.row_after-down.ensures c.col_after-right.ensures (sym c.is_within.ensures ∙ c.if-is_within.true) (sym c.is_within-then-is_within.ensures ∙ c.if-is_within-2.true))
 
 pub returns-else-is_within-2 : goal.returns-else-is_within-2
 returns-else-is_within-2 c =
     spot_none c.args.rows c.args.cols (omega arith)
-    (step_off_cols _ _ _ _ _ c.requires.code_value c.requires.cell.col_in c.row_after-down.ensures c.col_after-right.ensures (sym c.is_within.ensures ∙ c.if-is_within.true) (sym c.is_within-then-is_within.ensures ∙ c.if-is_within-2.false))
+    (step_off_cols _ _ _ _ _ c.requires.code_is_arrow c.requires.cell.col_in c.row_after-down.ensures c.col_after-right.ensures (sym c.is_within.ensures ∙ c.if-is_within.true) (sym c.is_within-then-is_within.ensures ∙ c.if-is_within-2.false))
 
 pub returns-else-is_within : goal.returns-else-is_within
 returns-else-is_within c =
     spot_none c.args.rows c.args.cols (omega arith)
-    (step_off_rows _ _ _ _ _ c.requires.code_value c.requires.cell.col_in c.row_after-down.ensures (sym c.is_within.ensures ∙ c.if-is_within.false))
+    (step_off_rows _ _ _ _ _ c.requires.code_is_arrow c.requires.cell.col_in c.row_after-down.ensures (sym c.is_within.ensures ∙ c.if-is_within.false))

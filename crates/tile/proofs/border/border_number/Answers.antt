@@ -19,7 +19,7 @@ returns-then-c-eq0 c =
 pub returns-then-r-rows : goal.returns-then-r-rows
 returns-then-r-rows c =
     let a = c.args in
-    omega (arith, number_right a.rows a.cols a.r a.c (omega arith) (omega arith) (omega arith) (edge_is_right a.rows a.cols a.r a.c c.requires.c_value (omega arith) (omega arith) (omega arith)))
+    omega (arith, number_right a.rows a.cols a.r a.c (omega arith) (omega arith) (omega arith) (edge_is_right a.rows a.cols a.r a.c c.requires.on_edge (omega arith) (omega arith) (omega arith)))
 
 pub returns : goal.returns
 returns c =
