@@ -1,14 +1,16 @@
 -- `sheet::shape::Sheet::make` meets its contract: what `is_within` answered tells each case.
 -- Assumes nothing.
 use mathlib.Core.Path.{refl, sym, ◌∙◌}
+use native.Mathlib.Nat.{mul-le-mul}
 use native.Mathlib.Omega.{arith}
-use Rattle.sheet.proofs.Places.{made, outside}
+use Rattle.sheet.proofs.Places.{within_true, made, outside}
 use Rattle.sheet.proofs.shape.Sheet.make.Goals as goal
 
 pub overflow_mul-cells : goal.overflow_mul-cells
 overflow_mul-cells c =
-    let m = made _ _ _ (sym c.is_within.ensures ∙ c.if-is_within.true) (sym c.is_within-then-is_within.ensures ∙ c.if-is_within-2.true) in
-    omega (arith, m.1)
+    let r = within_true _ _ (sym c.is_within.ensures ∙ c.if-is_within.true) in
+    let k = within_true _ _ (sym c.is_within-then-is_within.ensures ∙ c.if-is_within-2.true) in
+    omega (arith, mul-le-mul r.1 k.1)
 
 pub returns-then-is_within-2 : goal.returns-then-is_within-2
 returns-then-is_within-2 c =
