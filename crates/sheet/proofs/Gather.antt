@@ -1,16 +1,19 @@
 -- What a loop over the places gathers: one place more.
 -- Assumes nothing.
 use mathlib.Core.Path.{◌≡◌, sym, ap, ◌∙◌}
-use mathlib.Core.Bool.{Bool, true, false, not}
+use mathlib.Core.Bool.{Bool, true, false, not, cond}
+use Rattle.std.proofs.lemmas.List.Recursion.{is_count_by}
 use mathlib.Core.List.{List}
 use mathlib.Core.Logic.{inl, inr}
 use lib.ListN.{length, get_or}
-use Prim.Native.Nat.{ℕ, ◌+◌, ◌<◌, ◌≤◌, max}
+use mathlib.Core.List.{[], ◌∷◌}
+use Rattle.std.specs.List.{count_by, fold}
+use Prim.Native.Nat.{ℕ, zero, suc, ◌+◌, ◌<◌, ◌≤◌, max}
 use native.Mathlib.Omega.{arith}
 use native.Mathlib.Numerals.{add-one}
 use borrow.Author.Tests.{not-false}
 use Rattle.flow.specs.Net.{on, sum, number}
-use Rattle.flow.proofs.Sum.{test, sum_next, on_true, on_false, sum_ones, sum_mono, sum_at_least}
+use Rattle.flow.proofs.Sum.{test, sum_next, sum_first, on_true, on_false, sum_ones, sum_mono, sum_at_least}
 use Rattle.flow.proofs.Bound.{on_le}
 use Rattle.sheet.specs.Sheet.{code_at, CodeOk}
 use Rattle.sheet.specs.Compass.{is_code}
@@ -42,6 +45,44 @@ number_none n passes e p l = elim (test (passes p)) [
   | inl t ↦ absurd (omega (arith, sum_at_least n p (λ q. on (passes q) 1) l, on_true 1 t))
   | inr t ↦ t
 ]
+
+-- the items of a list that pass a test are as many as the places at which one stands
+module _ (passes : ℕ → Bool) (beyond : ℕ) where
+  abbrev items : List ℕ → ℕ
+  items xs = number (length xs) (λ i. passes (get_or xs i beyond))
+
+  one_item : (x : ℕ) (xs : List ℕ) → items (x ∷ xs) ≡ cond (passes x) (1 + items xs) (items xs)
+  one_item x xs =
+      let first = sum_first (length xs) (λ i. on (passes (get_or (x ∷ xs) i beyond)) 1) in
+      elim (test (passes x)) [
+        | inl t ↦ rw t (omega (arith, rw t at first))
+        | inr t ↦ rw t (omega (arith, rw t at first))
+      ]
+
+  no_item : items [] ≡ 0
+  unfolding sum
+  no_item = λ i. 0
+
+  pub number_items : (xs : List ℕ) → count_by passes xs ≡ number (length xs) (λ i. passes (get_or xs i beyond))
+  number_items xs = sym (is_count_by items passes no_item one_item xs)
+
+-- the greatest of n + 1 numbers is the first, or the greatest of those behind it
+greatest_first : (n : ℕ) (f : ℕ → ℕ) → greatest_below (suc n) f ≡ max (f 0) (greatest_below n (λ k. f (suc k)))
+unfolding greatest_below
+greatest_first zero f = grind arith
+greatest_first (suc n) f = let more = greatest_first n f in grind arith
+
+-- the greatest item of a list, or a where that is greater, is the greatest below its length
+greatest_items : (a : ℕ) (xs : List ℕ) → fold (λ m x. max m x) a xs ≡ max a (greatest_below (length xs) (λ i. get_or xs i 0))
+unfolding greatest_below
+greatest_items a [] = grind arith
+greatest_items a (x ∷ xs) =
+    let first = greatest_first (length xs) (λ i. get_or (x ∷ xs) i 0) in
+    let more = greatest_items (max a x) xs in
+    grind arith
+
+pub greatest_of : (xs : List ℕ) → fold (λ m x. max m x) 0 xs ≡ greatest_below (length xs) (λ i. get_or xs i 0)
+greatest_of xs = let e = greatest_items 0 xs in grind arith
 
 -- ---- bad codes
 
