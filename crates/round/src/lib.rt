@@ -27,7 +27,8 @@ pub trait Net {
 // How many other cells lie on the loop that `start` lies on, by walking round it.
 pub fn others_on_loop<N: Net>(net: &N, start: usize) -> usize
     requires { OnLoop (N.cells net.now) (N.to net.now) start }
-    ensures { loop_length (N.cells net.now) (N.to net.now) start ≡ result + 1 }
+    ensures one_more { loop_length (N.cells net.now) (N.to net.now) start ≡ result + 1 }
+    ensures inside { result < N.cells net.now }
 {
     let mut here = start;
     let mut others = 0;

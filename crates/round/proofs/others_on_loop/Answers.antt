@@ -17,7 +17,7 @@ pub loop-next-smaller : goal.loop-next-smaller
 loop-next-smaller g c = omega (arith, way_short c.loop-next.invariant)
 
 pub loop-next-preserved : goal.loop-next-preserved
-loop-next-preserved g c = way_on c.loop-next.invariant (rw c.in-Some.is at c.next.ensures).1 c.if-next-start.true
+loop-next-preserved g c = way_on c.loop-next.invariant c.in-Some.ensures.1 c.if-next-start.true
 
 pub returns-in-loop-next : goal.returns-in-loop-next
 returns-in-loop-next g c =
@@ -26,4 +26,8 @@ returns-in-loop-next g c =
     absurd (nowhere (way_next c.loop-next.invariant))
 
 pub returns-else-next-start : goal.returns-else-next-start
-returns-else-next-start g c = way_round c.loop-next.invariant (rw c.in-Some.is at c.next.ensures).1 c.if-next-start.false
+returns-else-next-start g c =
+    record {
+      one_more = way_round c.loop-next.invariant c.in-Some.ensures.1 c.if-next-start.false;
+      inside = way_short c.loop-next.invariant;
+    }

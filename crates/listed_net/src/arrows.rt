@@ -1,0 +1,54 @@
+// The arrows of a net that is given as a list: followed one by one, and what comes along all of them.
+ghost use Rattle.std.specs.Prelude.{ℕ, ◌<◌, ◌≤◌, SomeIff, length};
+ghost use Rattle.listed_net.specs.Net.{to_at};
+ghost use Rattle.listed_net.specs.Method.{ToBring, Brought};
+
+use round::Net;
+
+// A listed net as one whose arrows can be followed.
+#[derive(Drop)]
+pub struct Arrows<'a> {
+    pub to: &'a [u32],
+    ghost cells_most: { length to.now ≤ 1000000 },
+}
+
+impl Net for Arrows<'_> {
+    ghost use Rattle.std.specs.Prelude.{length};
+    ghost use Rattle.std.proofs.Common.{arith};
+    ghost use Rattle.flow.proofs.Lists.{list_out};
+    ghost use Rattle.listed_net.specs.Net.{to_at};
+
+    ghost cells = { λ net. length net.to.now };
+
+    ghost to = { λ net. to_at net.to.now };
+
+    fn next(&self, p: usize) -> Option<usize> {
+        arrow(self.to, p)
+    }
+
+    ghost few = { λ net. omega (arith, net.cells_most) };
+
+    ghost out = { λ net. unfold to_at in list_out net.to.now };
+}
+
+// The cell that the water of p goes to, if it goes to one.
+pub fn arrow(to: &[u32], p: usize) -> Option<usize>
+    requires { p < length to.now }
+    ensures { SomeIff result (to_at to.now p < length to.now) (to_at to.now p) }
+{
+    let t = to[p] as usize;
+    (t < to.len()).then_some(t)
+}
+
+// Adds to each of the sums, from a cleared buffer, what the cells hold whose water goes there.
+pub fn add_along<F: Fn(usize) -> u32>(to: &[u32], sums: &mut [u32], held_by: F)
+    ghost held: { ℕ → ℕ }
+    requires { ToBring to.now held sums.old (F.pre held_by) (F.post held_by) }
+    ensures { Brought to.now held sums.new (length to.now) }
+{
+    for q in 0..to.len() {
+        if let Some(t) = arrow(to, q) {
+            sums[t] += held_by(q);
+        }
+    }
+}
