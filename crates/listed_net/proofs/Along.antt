@@ -1,6 +1,6 @@
 -- Adding along the arrows: how it starts, and what one cell brings.
 -- Assumes nothing.
-use Rattle.std.proofs.Common.{ℕ, zero, suc, ◌+◌, ◌<◌, ◌≤◌, ◌≡◌, ◌⊎◌, inl, inr, sym, ap, ◌∙◌, arith, eqb, List, length, get_or, set, replicate, length-set, get_or-set_same, get_or-set_other}
+use Rattle.std.proofs.Common.{ℕ, zero, suc, ◌+◌, ◌<◌, ◌≤◌, ◌≡◌, inl, inr, sym, ap, ◌∙◌, arith, eqb, List, length, get_or, set, replicate, length-set, get_or-set_same, get_or-set_other}
 use Rattle.std.proofs.Math.ListN.{length-replicate, get_or-replicate}
 use Rattle.flow.specs.Net.{on, sum, given}
 use Rattle.flow.proofs.Sum.{same, on_eq, on_ne, sum_next, sum_suc}

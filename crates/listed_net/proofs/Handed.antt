@@ -1,6 +1,6 @@
 -- A step of handing on, over functions: g says for how many givers each cell waits, or that it has handed on.
 -- Assumes nothing.
-use Rattle.std.proofs.Common.{Bool, true, false, inl, inr, ◌≡◌, refl, sym, ap, ◌∙◌, ℕ, ◌+◌, ◌<◌, ◌≤◌, arith, eqb}
+use Rattle.std.proofs.Common.{true, false, inl, inr, ◌≡◌, refl, sym, ap, ◌∙◌, ℕ, ◌+◌, ◌<◌, ◌≤◌, arith, eqb}
 use Rattle.std.proofs.lemmas.Bool.{eq-eqb, ne_eqb, true≢false}
 use Rattle.flow.specs.Net.{on}
 use Rattle.flow.proofs.Sum.{test, same, on_eq, on_ne}

@@ -1,13 +1,13 @@
 -- A step of handing on, over lists: for each way through the code what it does to the net half-way; steps put together; and the scan.
 -- Assumes nothing.
-use Rattle.std.proofs.Common.{List, Option, Some, None, inl, inr, ◌≡◌, refl, sym, ap, ◌∙◌, ℕ, ◌+◌, ◌-◌, ◌<◌, ◌≤◌, arith, eqb, length, get_or, set, length-set, get_or-set_same, get_or-set_other}
+use Rattle.std.proofs.Common.{List, Option, Some, None, inl, inr, ◌≡◌, refl, sym, ap, ◌∙◌, ℕ, ◌+◌, ◌-◌, ◌<◌, arith, eqb, length, get_or, set, length-set, get_or-set_same, get_or-set_other}
 use Rattle.std.specs.Bool.{then_some}
 use Rattle.std.proofs.lemmas.Bool.{eqb-true, eqb-false}
 use Rattle.std.proofs.lemmas.Option.{same_Some, none-some}
 use Rattle.flow.proofs.Sum.{same, test}
 use Rattle.sheet.specs.Sheet.{count_at}
 use Rattle.listed_net.specs.Net.{to_at}
-use Rattle.listed_net.specs.Method.{Half, Ready, Passed, PassedBut, Moved, Scanned, left}
+use Rattle.listed_net.specs.Method.{Half, Ready, PassedBut, Moved, Scanned, left}
 use Rattle.listed_net.specs.declared.method.TheConstants.{HANDED_ON}
 use Rattle.listed_net.proofs.Handed.{HandsOn, next_waits, next_other_cell, handed, handed_holds, handed_less, handed_fits}
 use Rattle.listed_net.proofs.Listed.{to_at_beyond}

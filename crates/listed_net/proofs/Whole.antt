@@ -1,8 +1,8 @@
 -- Counting on a whole net: what is known before the scan, and what its end says.
 -- Assumes nothing.
-use Rattle.std.proofs.Common.{Bool, false, List, inl, inr, ◌≡◌, sym, ◌∙◌, ℕ, ◌<◌, ◌≤◌, arith, eqb, length, replicate}
+use Rattle.std.proofs.Common.{false, List, inl, inr, ◌≡◌, sym, ◌∙◌, ℕ, ◌<◌, ◌≤◌, arith, eqb, length}
 use Rattle.std.proofs.lemmas.Bool.{ne_eqb, true≢false}
-use Rattle.flow.specs.Net.{sum, number, given, loop_length, OnLoop, FirstLoop}
+use Rattle.flow.specs.Net.{sum, given, loop_length, OnLoop, FirstLoop}
 use Rattle.flow.proofs.HandOn.{open_givers, open_sum, none_done, all_done, open_iff_loop, all_done_free, first_open}
 use Rattle.flow.proofs.Sum.{test, sum_ext}
 use Rattle.promise.specs.Links.{FirstNot}

@@ -1,18 +1,19 @@
 -- What the functions promise each other and the crates that call them. Nothing here is cited by a public promise.
 -- Assumes nothing.
-use Rattle.std.specs.Prelude.{Bool, true, false, List, Option, Some, IfSome, ◌≡◌, ℕ, ◌<◌, ◌≤◌, eqb, length, replicate}
+use Rattle.std.specs.Prelude.{Bool, true, false, List, Option, Some, IfSome, ◌≡◌, ℕ, ◌<◌, ◌≤◌, eqb, length}
 use Rattle.flow.specs.Net.{given}
 use Rattle.flow.proofs.HandOn.{Holds, GiversDone, LoopsOpen, open_cells, open_givers, open_sum}
 use Rattle.sheet.specs.Sheet.{count_at}
 use Rattle.listed_net.specs.Net.{to_at}
 use Rattle.listed_net.specs.declared.method.TheConstants.{HANDED_ON}
 
--- what is lent to adding along the arrows: a cleared buffer, and a function that tells what each cell holds, where what comes to a cell fits 32 bits
-pub record ToBring (to : List ℕ) (held : ℕ → ℕ) (sums : List ℕ) (MayAsk : ℕ → Type 0) (Tells : ℕ → ℕ → Type 0) : Type 0 where
-  pub may_ask : (q : ℕ) → q < length to → MayAsk q
-  pub told : (q x : ℕ) → q < length to → Tells q x → x ≡ held q
-  pub fits : (p : ℕ) → p < length to → given (length to) (to_at to) held p < 4294967296
-  pub clear : sums ≡ replicate (length to) 0
+-- a function that is asked for what a cell holds tells that of each
+abbrev pub Tells : ℕ → (ℕ → ℕ → Type 0) → (ℕ → ℕ) → Type 0
+Tells n Told held = (q x : ℕ) → q < n → Told q x → x ≡ held q
+
+-- what comes to a cell fits 32 bits
+abbrev pub Fit : List ℕ → (ℕ → ℕ) → Type 0
+Fit to held = (p : ℕ) → p < length to → given (length to) (to_at to) held p < 4294967296
 
 -- what the first k cells bring is added up: each of the sums is what those of them hold whose water goes there
 pub record Brought (to : List ℕ) (held : ℕ → ℕ) (sums : List ℕ) (k : ℕ) : Type 0 where

@@ -1,7 +1,7 @@
 // The arrows of a net that is given as a list: followed one by one, and what comes along all of them.
-ghost use Rattle.std.specs.Prelude.{ℕ, ◌<◌, ◌≤◌, SomeIff, length};
+ghost use Rattle.std.specs.Prelude.{ℕ, ◌≡◌, ◌<◌, ◌≤◌, SomeIff, length, replicate};
 ghost use Rattle.listed_net.specs.Net.{to_at};
-ghost use Rattle.listed_net.specs.Method.{ToBring, Brought};
+ghost use Rattle.listed_net.specs.Method.{Tells, Fit, Brought};
 
 use round::Net;
 
@@ -42,9 +42,10 @@ pub fn arrow(to: &[u32], p: usize) -> Option<usize>
 
 // Adds to each of the sums, from a cleared buffer, what the cells hold whose water goes there.
 pub fn add_along<F: Fn(usize) -> u32>(to: &[u32], sums: &mut [u32], held_by: F)
-    ghost held: { ℕ → ℕ }
-    requires { ToBring to.now held sums.old (F.pre held_by) (F.post held_by) }
-    ensures { Brought to.now held sums.new (length to.now) }
+    requires may_ask { (q : ℕ) → q < length to.now → F.pre held_by q }
+    requires some_fit { (held : ℕ → ℕ) × Tells (length to.now) (F.post held_by) held × Fit to.now held }
+    requires clear { sums.old ≡ replicate (length to.now) 0 }
+    ensures { (held : ℕ → ℕ) → Tells (length to.now) (F.post held_by) held → Brought to.now held sums.new (length to.now) }
 {
     for q in 0..to.len() {
         if let Some(t) = arrow(to, q) {

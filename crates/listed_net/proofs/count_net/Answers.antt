@@ -1,23 +1,18 @@
 -- `listed_net::count_net` meets its contract: the end of the scan says what is left, and whether anything is.
 -- Assumes nothing.
-use Rattle.std.proofs.Common.{refl, ◌≡◌, ℕ, ◌<◌, arith, rules, length, replicate, ap, ◌∙◌}
+use Rattle.std.proofs.Common.{arith, rules, length}
 use Rattle.listed_net.specs.Net.{to_at}
-use Rattle.listed_net.specs.Method.{ToBring}
 use Rattle.listed_net.proofs.Whole.{givers_given, half_start, weighed_start, whole_done, whole_on_loop, whole_loop}
 use Rattle.listed_net.proofs.count_net.Goals as goal
 
-pub add_along-requires : goal.add_along-requires
-add_along-requires c =
-    let cleared : c.fill.new.self ≡ replicate (length c.args.to.now) 0 = ? in
-    (λ a m. m, record {
-      may_ask = λ q l. ?;
-      told = λ q x l e. ?;
-      fits = λ p l. omega (arith, givers_given (length c.args.to.now) (to_at c.args.to.now) p, c.requires.cells_most);
-      clear = cleared;
-    })
+pub add_along-requires-clause-some_fit : goal.add_along-requires-clause-some_fit
+add_along-requires-clause-some_fit c =
+    (λ q. 1, λ q x l e. search rules, λ p l. omega (arith, givers_given (length c.args.to.now) (to_at c.args.to.now) p, c.requires.cells_most))
 
 pub scan-requires : goal.scan-requires
-scan-requires c = half_start c.args.to.now c.args.totals.now _ c.requires.cells_most c.add_along.ensures c.requires.weights_long c.requires.weights_fit
+scan-requires c =
+    let givers = c.add_along.ensures (λ q. 1) (λ q x l e. search rules) in
+    half_start c.args.to.now c.args.totals.now _ c.requires.cells_most givers c.requires.weights_long c.requires.weights_fit
 
 pub others_on_loop-length-requires : goal.others_on_loop-length-requires
 others_on_loop-length-requires c = whole_on_loop c.scan.ensures c.in-Some.ensures
@@ -32,8 +27,9 @@ returns-in-Some c =
 
 pub returns-in-None : goal.returns-in-None
 returns-in-None c =
+    let givers = c.add_along.ensures (λ q. 1) (λ q x l e. search rules) in
     record {
       totals_long = c.scan.ensures.half.totals_long;
       waiting_long = c.scan.ensures.half.waiting_long;
-      answers = whole_done c.scan.ensures (weighed_start c.args.to.now c.args.totals.now _ c.requires.cells_most c.add_along.ensures) c.in-None.ensures;
+      answers = whole_done c.scan.ensures (weighed_start c.args.to.now c.args.totals.now _ c.requires.cells_most givers) c.in-None.ensures;
     }
