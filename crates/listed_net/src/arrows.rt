@@ -7,7 +7,7 @@ use round::Net;
 
 // A listed net as one whose arrows can be followed.
 #[derive(Drop)]
-pub struct Arrows<'a> {
+pub(crate) struct Arrows<'a> {
     pub to: &'a [u32],
     ghost cells_most: { length to.now ≤ 1000000 },
 }
@@ -32,7 +32,7 @@ impl Net for Arrows<'_> {
 }
 
 // The cell that the water of p goes to, if it goes to one.
-pub fn arrow(to: &[u32], p: usize) -> Option<usize>
+pub(crate) fn arrow(to: &[u32], p: usize) -> Option<usize>
     requires { p < length to.now }
     ensures { SomeIff result (to_at to.now p < length to.now) (to_at to.now p) }
 {

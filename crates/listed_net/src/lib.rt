@@ -3,7 +3,7 @@
 #![tactic(auto)]
 
 pub mod arrows;
-pub mod method;
+mod method;
 
 ghost use Rattle.listed_net.specs.Net.{NetLent, NetPromise};
 

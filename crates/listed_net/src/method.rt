@@ -6,7 +6,7 @@ ghost use Rattle.listed_net.specs.Method.{Half, Ready, Moved, Scanned, IsDone, l
 use crate::arrows::arrow;
 
 // Marks a cell that has handed on, in place of the number of the givers that it waits for.
-pub const HANDED_ON: u32 = u32::MAX;
+const HANDED_ON: u32 = u32::MAX;
 
 // Cell p, which waits for no giver, hands on what it holds. Answers the cell that it goes to where that now waits for none.
 fn hand_on(to: &[u32], totals: &mut [u32], waiting: &mut [u32], p: usize) -> Option<usize>
