@@ -9,20 +9,20 @@ use Rattle.promise.specs.Links.{FirstNot}
 use Rattle.sheet.specs.Sheet.{count_at}
 use Rattle.sheet.proofs.Gather.{number_le}
 use Rattle.listed_net.specs.Net.{to_at, NetCounts}
-use Rattle.listed_net.specs.Method.{marked, Brought, Half, Scanned, Weighed, IsDone}
+use Rattle.listed_net.specs.Method.{marked, Gathered, Half, Scanned, Weighed, IsDone}
 use Rattle.listed_net.specs.declared.method.TheConstants.{HANDED_ON}
 
 -- ---- before the scan: each cell waits for its givers
 
--- the arrows that end at a cell are its givers, of which each brings 1
+-- the arrows that end at a cell are its givers, of which each counts 1
 pub givers_given : (n : ℕ) (to : ℕ → ℕ) (p : ℕ) → given n to (λ q. 1) p ≤ n
 unfolding given
 givers_given n to p = number_le n (λ q. eqb (to q) p)
 
-module _ (to c g : List ℕ) (most : length to ≤ 1000000) (s : Brought to (λ q. 1) g (length to)) where
+module _ (to c g : List ℕ) (most : length to ≤ 1000000) (s : Gathered to (λ q. 1) g (length to)) where
   -- no cell has handed on
   none_marked : (p : ℕ) → p < length to → marked (count_at g) p ≡ false
-  none_marked p l = ne_eqb (count_at g p) HANDED_ON (λ e. omega (arith, s.sums_are p l, givers_given (length to) (to_at to) p))
+  none_marked p l = ne_eqb (count_at g p) HANDED_ON (λ e. omega (arith, s.holds p l, givers_given (length to) (to_at to) p))
 
   all_open : (p : ℕ) → given (length to) (to_at to) (λ q. 1) p ≡ open_givers (length to) (to_at to) (marked (count_at g)) p
   unfolding given open_givers
@@ -38,7 +38,7 @@ module _ (to c g : List ℕ) (most : length to ≤ 1000000) (s : Brought to (λ 
     totals_long = long;
     waiting_long = s.long;
     handing = record {
-      waits = λ p l o. s.sums_are p l ∙ all_open p;
+      waits = λ p l o. s.holds p l ∙ all_open p;
       before = λ p q l lq e h. absurd (true≢false (sym h ∙ none_marked p l));
       loops = λ p o. none_marked p o.0;
       light = omega (arith, all_held);

@@ -7,7 +7,9 @@ use Rattle.sheet.specs.Sheet.{count_at}
 use Rattle.listed_net.specs.Net.{to_at}
 use Rattle.listed_net.specs.declared.method.TheConstants.{HANDED_ON}
 
--- a function that is asked for what a cell holds tells that of each
+-- ---- gathering
+
+-- a function that is asked for what a cell holds tells it
 abbrev pub Tells : ℕ → (ℕ → ℕ → Type 0) → (ℕ → ℕ) → Type 0
 Tells n Told held = (q x : ℕ) → q < n → Told q x → x ≡ held q
 
@@ -15,10 +17,12 @@ Tells n Told held = (q x : ℕ) → q < n → Told q x → x ≡ held q
 abbrev pub Fit : List ℕ → (ℕ → ℕ) → Type 0
 Fit to held = (p : ℕ) → p < length to → given (length to) (to_at to) held p < 4294967296
 
--- what the first k cells bring is added up: each of the sums is what those of them hold whose water goes there
-pub record Brought (to : List ℕ) (held : ℕ → ℕ) (sums : List ℕ) (k : ℕ) : Type 0 where
+-- each of the sums is what the first k cells hold whose water goes there
+pub record Gathered (to : List ℕ) (held : ℕ → ℕ) (sums : List ℕ) (k : ℕ) : Type 0 where
   pub long : length sums ≡ length to
-  pub sums_are : (p : ℕ) → p < length to → count_at sums p ≡ given k (to_at to) held p
+  pub holds : (p : ℕ) → p < length to → count_at sums p ≡ given k (to_at to) held p
+
+-- ---- handing on
 
 -- a cell that has handed on what it holds is marked in place of the number of the givers that it waits for
 abbrev pub marked : (ℕ → ℕ) → ℕ → Bool

@@ -1,11 +1,11 @@
-// The arrows of a net that is given as a list: followed one by one, and what comes along all of them.
+// The arrows of a net that is given as a list: followed one by one, and all of them at once.
 ghost use Rattle.std.specs.Prelude.{ℕ, ◌≡◌, ◌<◌, ◌≤◌, SomeIff, length, replicate};
 ghost use Rattle.listed_net.specs.Net.{to_at};
-ghost use Rattle.listed_net.specs.Method.{Tells, Fit, Brought};
+ghost use Rattle.listed_net.specs.Method.{Tells, Fit, Gathered};
 
 use round::Net;
 
-// A listed net as one whose arrows can be followed.
+// The arrows as a net that code can follow.
 #[derive(Drop)]
 pub(crate) struct Arrows<'a> {
     pub to: &'a [u32],
@@ -40,12 +40,14 @@ pub(crate) fn arrow(to: &[u32], p: usize) -> Option<usize>
     (t < to.len()).then_some(t)
 }
 
-// Adds to each of the sums, from a cleared buffer, what the cells hold whose water goes there.
-pub fn add_along<F: Fn(usize) -> u32>(to: &[u32], sums: &mut [u32], held_by: F)
+// Gathers at each cell, from a cleared buffer, what the cells hold whose water goes there.
+pub fn gather<F: Fn(usize) -> u32>(to: &[u32], sums: &mut [u32], held_by: F)
     requires may_ask { (q : ℕ) → q < length to.now → F.pre held_by q }
-    requires some_fit { (held : ℕ → ℕ) × Tells (length to.now) (F.post held_by) held × Fit to.now held }
-    requires clear { sums.old ≡ replicate (length to.now) 0 }
-    ensures { (held : ℕ → ℕ) → Tells (length to.now) (F.post held_by) held → Brought to.now held sums.new (length to.now) }
+
+    // What `held_by` tells is one number for each cell, and what comes to a cell fits 32 bits.
+    requires fit { (held : ℕ → ℕ) × Tells (length to.now) (F.post held_by) held × Fit to.now held }
+    requires sums_clear { sums.old ≡ replicate (length to.now) 0 }
+    ensures { (held : ℕ → ℕ) → Tells (length to.now) (F.post held_by) held → Gathered to.now held sums.new (length to.now) }
 {
     for q in 0..to.len() {
         if let Some(t) = arrow(to, q) {

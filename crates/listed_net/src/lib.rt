@@ -7,7 +7,7 @@ mod method;
 
 ghost use Rattle.listed_net.specs.Net.{NetLent, NetPromise};
 
-use crate::arrows::{Arrows, add_along};
+use crate::arrows::{Arrows, gather};
 use crate::method::{first_open, scan};
 use round::others_on_loop;
 
@@ -24,8 +24,9 @@ pub fn count_net(to: &[u32], totals: &mut [u32], waiting: &mut [u32]) -> Result<
     requires { NetLent to.now totals.old waiting.old }
     ensures { NetPromise to.now totals.old totals.new waiting.new result }
 {
+    // Each arrow is one giver that its end waits for.
     waiting.fill(0);
-    add_along(to, waiting, |_| 1);
+    gather(to, waiting, |_| 1);
     scan(to, totals, waiting);
     match first_open(waiting) {
         Some(first) => {

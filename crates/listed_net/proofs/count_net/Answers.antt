@@ -5,13 +5,13 @@ use Rattle.listed_net.specs.Net.{to_at}
 use Rattle.listed_net.proofs.Whole.{givers_given, half_start, weighed_start, whole_done, whole_on_loop, whole_loop}
 use Rattle.listed_net.proofs.count_net.Goals as goal
 
-pub add_along-requires-clause-some_fit : goal.add_along-requires-clause-some_fit
-add_along-requires-clause-some_fit c =
+pub gather-requires-clause-fit : goal.gather-requires-clause-fit
+gather-requires-clause-fit c =
     (λ q. 1, λ q x l e. search rules, λ p l. omega (arith, givers_given (length c.args.to.now) (to_at c.args.to.now) p, c.requires.cells_most))
 
 pub scan-requires : goal.scan-requires
 scan-requires c =
-    let givers = c.add_along.ensures (λ q. 1) (λ q x l e. search rules) in
+    let givers = c.gather.ensures (λ q. 1) (λ q x l e. search rules) in
     half_start c.args.to.now c.args.totals.now _ c.requires.cells_most givers c.requires.weights_long c.requires.weights_fit
 
 pub others_on_loop-length-requires : goal.others_on_loop-length-requires
@@ -27,7 +27,7 @@ returns-in-Some c =
 
 pub returns-in-None : goal.returns-in-None
 returns-in-None c =
-    let givers = c.add_along.ensures (λ q. 1) (λ q x l e. search rules) in
+    let givers = c.gather.ensures (λ q. 1) (λ q x l e. search rules) in
     record {
       totals_long = c.scan.ensures.half.totals_long;
       waiting_long = c.scan.ensures.half.waiting_long;
