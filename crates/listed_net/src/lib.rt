@@ -3,7 +3,7 @@
 #![tactic(auto)]
 
 pub mod arrows;
-mod method;
+pub mod method;
 
 ghost use Rattle.listed_net.specs.Net.{NetLent, NetPromise};
 
