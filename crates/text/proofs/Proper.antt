@@ -8,11 +8,14 @@ use mathlib.Core.Logic.{inl, inr}
 use native.Mathlib.Omega.{arith}
 use lib.ListN.{length, take, drop, take-append-drop}
 use lib.Seq.{take-append-le, take-append_seam}
+use Rattle.std.specs.Prelude.{Ok, Err}
 use Rattle.sheet.specs.Shape.{Within}
-use Rattle.text.specs.Text.{line, lines, Short, Opens, Sides, Proper, GoesOn, StopsAt}
+use Rattle.text.specs.Text.{line, lines, Short, Opens, FirstLine, Proper, GoesOn, StopsAt}
 use Rattle.text.specs.Read.{kept, Opening, ProperOf, Rows, ReadsFirst, Parses}
-use Rattle.text.specs.declared.First.TheVariants as F
-use Rattle.text.specs.declared.Text.TheVariants as P
+use Rattle.text.specs.declared.Malformed.{Malformed}
+use Rattle.text.specs.declared.Read.{Read}
+use Rattle.text.specs.declared.Sides.{Sides}
+use Rattle.text.specs.declared.TextError.TheVariants as E
 use Rattle.text.proofs.Flat.{zeros, zeros_long, zeros_short}
 use Rattle.text.proofs.Decimal.{below?}
 use Rattle.text.proofs.Begin.{opens_one, after_first}
@@ -107,20 +110,24 @@ body_stops rows cols rest text k o h = record {
 -- ---- reading a whole text
 
 module _ (text before after : List ℕ) where
-  pub parse_bad : (k : ℕ) → ReadsFirst text (F.Bad k) → Parses text before after (P.Malformed k)
-  parse_bad k s = inl (λ v o. s.whole (v.rows, v.cols, o.0, o.1), first_stops text k s)
+  pub parse_bad : (stop : Malformed) → ReadsFirst text (Err stop) → Parses text before after (Err (E.Malformed stop.at))
+  parse_bad stop s = inl (λ v o. s.whole (v.rows, v.cols, o.0, o.1), first_stops text stop.at s)
 
-  module _ (rows cols next : ℕ) (first : ReadsFirst text (F.Line rows cols next)) where
-    pub parse_shape : (Within 64 rows cols → ⊥) → Parses text before after P.Shape
-    parse_shape out = (sides rows cols, (drop next text, first.1), out)
+  module _ (first : Read Sides) (read : ReadsFirst text (Ok first)) where
+    opened : FirstLine text first.value
+    opened = (drop first.next text, read.1)
 
-    pub parse_broken : (rest : List ℕ) (k : ℕ) → Within 64 rows cols → rest ≡ drop next text
-        → StopsAt (λ s. (codes : List ℕ) × Rows rows cols codes s) rest k → Parses text before after (P.Malformed (next + k))
-    parse_broken rest k w e s =
-        inr (sides rows cols, w, (drop next text, first.1), body_stops rows cols (drop next text) text (next + k) first.1 (after_first text rows cols next k first.1 first.0 (rw e at s)))
+    pub parse_shape : (Within 64 first.value.rows first.value.cols → ⊥) → Parses text before after (Err E.Shape)
+    parse_shape out = (first.value, opened, out)
 
-    pub parse_whole : (rest : List ℕ) → Within 64 rows cols → rest ≡ drop next text
-        → (codes : List ℕ) × Rows rows cols codes rest × (after ≡ map kept codes ++ drop (rows * cols) before) → Parses text before after (P.Parsed rows cols)
-    parse_whole rest w e h =
-        let opens : Opens rows cols (lines rows cols h.0) text = rw (sym e ∙ h.1.reads) at first.1 in
+    pub parse_broken : (k : ℕ) → Within 64 first.value.rows first.value.cols
+        → StopsAt (λ s. (codes : List ℕ) × Rows first.value.rows first.value.cols codes s) (drop first.next text) k → Parses text before after (Err (E.Malformed (first.next + k)))
+    parse_broken k w s =
+        inr (first.value, w, opened, body_stops _ _ (drop first.next text) text (first.next + k) read.1 (after_first text _ _ first.next k read.1 read.0 s))
+
+    pub parse_whole : Within 64 first.value.rows first.value.cols
+        → (codes : List ℕ) × Rows first.value.rows first.value.cols codes (drop first.next text) × (after ≡ map kept codes ++ drop (first.value.rows * first.value.cols) before)
+        → Parses text before after (Ok first.value)
+    parse_whole w h =
+        let opens : Opens first.value.rows first.value.cols (lines first.value.rows first.value.cols h.0) text = rw h.1.reads at read.1 in
         (h.0, w, record { opens = opens; codes_short = h.1.codes_short; codes_long = h.1.codes_long }, h.2)
