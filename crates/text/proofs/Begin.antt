@@ -87,10 +87,6 @@ after_first text rows cols next j o inside h =
 pub area : {rows cols n : ℕ} → rows ≤ 64 → cols ≤ 64 → 4096 ≤ n → rows * cols ≤ n
 area {rows} {cols} {n} h k l = omega (arith, mul-le-mul {n₂ = 64} {m₂ = 64} h k)
 
--- the rest of a text, to its end
-pub part_end : (text : List ℕ) (next : ℕ) → take (length text - next) (drop next text) ≡ drop next text
-part_end text next = take_all (length text - next) (drop next text) (omega (arith, length-drop next text))
-
 -- ---- the test of the sides
 
 pub fits_in : (rows cols : ℕ) → fits rows cols ≡ true → Within 64 rows cols

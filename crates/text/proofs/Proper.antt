@@ -6,7 +6,7 @@ use mathlib.Core.Path.{◌≡◌, sym, ap, ◌∙◌, subst₂}
 use mathlib.Core.List.{List, [], ◌∷◌, ◌++◌, map, append_assoc}
 use mathlib.Core.Logic.{inl, inr}
 use native.Mathlib.Omega.{arith}
-use lib.ListN.{length, take, drop, take-append-drop}
+use lib.ListN.{length, replicate, length-replicate, take, drop, take-append-drop}
 use lib.Seq.{take-append-le, take-append_seam}
 use Rattle.std.specs.Prelude.{Ok, Err}
 use Rattle.sheet.specs.Shape.{Within}
@@ -16,8 +16,8 @@ use Rattle.text.specs.declared.Malformed.{Malformed}
 use Rattle.text.specs.declared.Read.{Read}
 use Rattle.text.specs.declared.Sides.{Sides}
 use Rattle.text.specs.declared.TextError.TheVariants as E
-use Rattle.text.proofs.Flat.{zeros, zeros_long, zeros_short}
-use Rattle.text.proofs.Decimal.{below?}
+use Rattle.text.proofs.Flat.{zeros_short}
+use Rattle.std.proofs.lemmas.Bool.{cases_lt}
 use Rattle.text.proofs.Begin.{opens_one, after_first}
 
 abbrev pub sides : (rows cols : ℕ) → Sides
@@ -34,7 +34,7 @@ line_goes_on : (rows cols : ℕ) (p more rest : List ℕ) → Short rows → Sho
     → length p ≤ length (line (rows ∷ cols ∷ [])) → GoesOn (ProperOf rows cols) p
 line_goes_on rows cols p more rest hr hc e l =
     let d : List ℕ = line (rows ∷ cols ∷ []) in
-    let codes : List ℕ = zeros (rows * cols) in
+    let codes : List ℕ = replicate (rows * cols) 0 in
     let whole : p ++ drop (length p) d ≡ d = front d rest p more (sym e) l in
     let all : p ++ (drop (length p) d ++ lines rows cols codes) ≡ d ++ lines rows cols codes = sym (append_assoc p (drop (length p) d) (lines rows cols codes)) ∙ ap (λ (s : List ℕ). s ++ lines rows cols codes) whole in (
       drop (length p) d ++ lines rows cols codes,
@@ -43,7 +43,7 @@ line_goes_on rows cols p more rest hr hc e l =
         record {
           opens = record { rows_short = hr; cols_short = hc; reads = all };
           codes_short = zeros_short (rows * cols);
-          codes_long = zeros_long (rows * cols);
+          codes_long = length-replicate (rows * cols) 0;
         },
       ),
     )
@@ -56,7 +56,7 @@ pub first_stops : (text : List ℕ) (k : ℕ) → StopsAt Opening text k → Sto
 first_stops text k h =
     let g = h.before.1 in
     let d : List ℕ = line (g.0 ∷ g.1 ∷ []) in
-    let short : length (take k text) ≤ length d = elim (below? (length d) (length (take k text))) [
+    let short : length (take k text) ≤ length d = elim (cases_lt (length d) (length (take k text))) [
       | inl l ↦
           let p = front (take k text) h.before.0 d g.2 g.3.reads (omega arith) in
           absurd (h.whole (
@@ -98,7 +98,7 @@ pub body_stops : (rows cols : ℕ) (rest text : List ℕ) (k : ℕ) → Opens ro
 body_stops rows cols rest text k o h = record {
   inside = h.inside;
   before = (h.before.0, (sides rows cols, h.before.1.0, h.before.1.1));
-  here = λ l m. h.here l (elim (below? (length (take (k + 1) text)) (length (line (rows ∷ cols ∷ [])))) [
+  here = λ l m. h.here l (elim (cases_lt (length (take (k + 1) text)) (length (line (rows ∷ cols ∷ [])))) [
     | inl s ↦ line_goes_on rows cols (take (k + 1) text) (drop (k + 1) text) rest o.rows_short o.cols_short (take-append-drop (k + 1) text ∙ o.reads) (omega arith)
     | inr s ↦ (m.0, same_sides rows cols rest text m.0 (k + 1) o s m.1)
   ]);
