@@ -7,8 +7,7 @@ use native.Mathlib.Nat.{mul-le-mul}
 use native.Mathlib.Omega.{arith}
 use mathlib.Core.Bool.{true, false, false≢true}
 use mathlib.Core.Logic.{inl, inr}
-use lib.Seq.{take_all}
-use lib.ListN.{length, take, drop, length-append, length-drop}
+use lib.ListN.{length, drop, length-append, length-drop}
 use Rattle.text.specs.Text.{decimal, line, lines, Short, Opens, StopsAt, Digit}
 use Rattle.text.specs.Read.{Stuck, fits, Opening, ProperOf, Rows}
 use Rattle.flow.proofs.Sum.{test}
