@@ -1,10 +1,12 @@
 -- What the count program writes (paper 01, "The count program"): lines of words and numbers, as bytes.
 -- Assumes nothing.
-use Rattle.std.specs.Prelude.{List, [], ◌∷◌, ◌++◌, ◌≡◌, ℕ, ◌+◌, ◌≤◌, length, take, drop}
+use Rattle.std.specs.Prelude.{List, [], ◌∷◌, ◌++◌, ℕ}
+use Rattle.std.specs.List.{flat_map}
 use Prim.Native.Char.{code}
 use Prim.Native.String.{String}
 use Prim.Native.String as S
 use Rattle.text.specs.Text.{decimal, lines}
+use Rattle.show.specs.declared.Item.{Item}
 
 -- the bytes of a word
 unfoldable pub word : String → List ℕ
@@ -14,6 +16,10 @@ word (S.◌∷◌ c s) = code c ∷ word s
 -- a word and a number
 abbrev pub item : String → ℕ → List ℕ
 item w n = word w ++ decimal n
+
+-- the same of a line's items as the program holds them, one after the other
+abbrev pub items : List Item → List ℕ
+items = flat_map (λ i. i.0.now ++ decimal i.1)
 
 -- ---- a refusal is one line: its number, and a place and a loop's length where there are any
 
@@ -35,11 +41,3 @@ totals_line land outlets greatest = item "land " land ++ (item " outlets " outle
 
 abbrev pub done : (rows cols : ℕ) (counts : List ℕ) (land outlets greatest : ℕ) → List ℕ
 done rows cols counts land outlets greatest = shape_line rows cols ++ lines rows cols counts ++ totals_line land outlets greatest
-
--- ---- writing
-
--- `bytes` have been written into `out` from `at`, and nothing else has changed; the next place is `next`
-pub record Wrote (bytes out : List ℕ) (at : ℕ) (after : List ℕ) (next : ℕ) : Type 0 where
-  pub room : at + length bytes ≤ length out
-  pub next_is : next ≡ at + length bytes
-  pub out_is : after ≡ take at out ++ (bytes ++ drop next out)

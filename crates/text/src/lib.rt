@@ -1,7 +1,7 @@
 // Reading the text of the count program: a line of rows and columns, then one line of codes per row.
 #![tactic(auto)]
 
-ghost use Rattle.std.specs.Prelude.{◌≡◌, ◌*◌, ◌<◌, ◌≤◌, length};
+ghost use Rattle.std.specs.Prelude.{◌≡◌, ◌*◌, ◌≤◌, length};
 ghost use Rattle.text.specs.Text.{Digit};
 ghost use Rattle.text.specs.Read.{Reads, end_of, kept, fits, ReadsBody, ReadsFirst, Parses};
 
