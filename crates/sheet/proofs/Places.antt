@@ -8,8 +8,8 @@ use native.Mathlib.Omega.{arith}
 use native.Mathlib.Nat.{mul-zero, mod-lt, div-lt_iff_lt-mul, mul-le-mul, mul-le-mul_right, suc-mul, mul-add-div_right, mul-add-mod_self_right, div-eq_of_lt, mod-eq_of_lt}
 use mathlib.Core.Bool.{Bool, true, false, false≢true}
 use borrow.Author.Tests.{leb-true, le-leb}
-use Rattle.sheet.specs.Shape.{Within}
-use Rattle.sheet.specs.Leaves.{Place, Laid, within}
+use Rattle.sheet.specs.Shape.{Within, within}
+use Rattle.sheet.specs.Leaves.{Place, Laid}
 
 pub cols_pos : (rows cols p : ℕ) → p < rows * cols → 0 < cols
 cols_pos rows zero p h = let h' = rw (mul-zero rows) at h in absurd (omega arith)

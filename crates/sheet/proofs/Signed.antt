@@ -10,7 +10,8 @@ use mir.Syntax.{w32}
 use mir.Val.{to_z, of_z}
 use mir.Facts.{to_z_pos}
 use borrow.Author.Tests.{le-ltb, le-leb}
-use Rattle.sheet.specs.Leaves.{within, small, lift}
+use Rattle.sheet.specs.Leaves.{small, lift}
+use Rattle.sheet.specs.Shape.{within}
 use Rattle.sheet.specs.Sheet.{inside, coordinate, step_from}
 use Rattle.sheet.specs.Compass.{step_at, step_of, line_of, is_arrow}
 use Rattle.sheet.proofs.Table.{below8, arrow_line}

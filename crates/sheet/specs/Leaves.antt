@@ -1,9 +1,16 @@
 -- What the leaves ask of their callers; last, what they promise each other and the crates that call them.
 -- Assumes nothing.
-use Rattle.std.specs.Prelude.{Bool, not, ◌&&◌, List, ◌≡◌, ℕ, ◌+◌, ◌*◌, ◌<◌, ◌≤◌, leb, ℤ, pos, negsuc, length}
+use Rattle.std.specs.Prelude.{Bool, not, Option, Some, None, List, ◌≡◌, ℕ, ◌+◌, ◌*◌, ◌<◌, ◌≤◌, leb, ℤ, pos, negsuc, length}
 use Rattle.sheet.specs.Compass.{is_code}
+use Rattle.sheet.specs.Shape.{Within}
 use Rattle.sheet.specs.Sheet.{code_at}
+use Rattle.sheet.specs.declared.shape.Shape.{Shape}
 use Rattle.sheet.specs.declared.step.Spot.{Spot}
+
+-- what making a shape answers: the shape, or that it lies outside the bounds
+abbrev pub Makes : (most rows cols : ℕ) → Option (Shape most) → Type 0
+Makes most rows cols (Some s) = Within most rows cols × (s.rows ≡ rows) × (s.cols ≡ cols)
+Makes most rows cols None = Within most rows cols → ⊥
 
 -- p is a place of a sheet of an allowed size
 pub record Place (rows cols p : ℕ) : Type 0 where
@@ -18,12 +25,22 @@ pub record Cell (rows cols r c : ℕ) : Type 0 where
   pub row_in : r < rows
   pub col_in : c < cols
 
--- a spot is that of place q: of a cell, or (rows, 0) where q is none
-pub record SpotOf (rows cols : ℕ) (s : Spot) (q : ℕ) : Type 0 where
+-- a row and a column of a sheet, and their place
+abbrev pub OnSheet : Shape 4096 → Spot → Type 0
+OnSheet s at = Cell s.rows s.cols at.row at.col
+
+abbrev pub spot_place : Shape 4096 → Spot → ℕ
+spot_place s at = at.row * s.cols + at.col
+
+-- a spot is that of place q, and there is none where q is no place
+pub record SpotIs (rows cols : ℕ) (s : Spot) (q : ℕ) : Type 0 where
   pub place_is : s.row * cols + s.col ≡ q
-  pub row_le : s.row ≤ rows
+  pub row_in : s.row < rows
   pub col_in : s.col < cols
-  pub none_is : s.row ≡ rows → s.col ≡ 0
+
+abbrev pub SpotOf : (rows cols : ℕ) → Option Spot → ℕ → Type 0
+SpotOf rows cols (Some s) q = SpotIs rows cols s q
+SpotOf rows cols None q = q ≡ rows * cols
 
 -- a sheet of an allowed size, with buffers of its length
 pub record Laid (rows cols : ℕ) (grid counts : List ℕ) : Type 0 where
@@ -33,10 +50,6 @@ pub record Laid (rows cols : ℕ) (grid counts : List ℕ) : Type 0 where
   pub counts_long : length counts ≡ rows * cols
 
 -- ---- among the leaves
-
--- 1 ≤ n ≤ most
-unfoldable pub within : ℕ → ℕ → Bool
-within n most = leb 1 n && leb n most
 
 -- a step's number is -1, 0 or 1
 abbrev pub small : ℤ → Bool

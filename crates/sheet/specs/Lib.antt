@@ -3,3 +3,4 @@ pub mod Compass
 pub mod Sheet
 pub mod Totals
 pub mod Leaves
+pub mod Grid

@@ -7,7 +7,7 @@ ghost use Rattle.sheet.specs.Compass.{meaning_of, is_arrow, is_code};
 pub struct Step(pub u8, pub i32, pub i32);
 
 // What a code means.
-#[derive(Drop)]
+#[derive(Clone, Copy)]
 pub enum Meaning {
     Arrow(Step),
     Absent,
@@ -49,22 +49,12 @@ pub fn meaning_of(code: u8) -> Meaning
 pub fn is_arrow(code: u8) -> bool
     ensures { result ≡ is_arrow code }
 {
-    match meaning_of(code) {
-        Meaning::Arrow(_) => true,
-        Meaning::Absent => false,
-        Meaning::Bad => false,
-    }
+    matches!(meaning_of(code), Meaning::Arrow(_))
 }
 
 // Whether a code is an arrow or marks an absent cell.
 pub fn is_code(code: u8) -> bool
     ensures { result ≡ is_code code }
 {
-    if is_arrow(code) {
-        return true;
-    }
-    if code == 0 {
-        return true;
-    }
-    code == 255
+    !matches!(meaning_of(code), Meaning::Bad)
 }

@@ -2,6 +2,7 @@
 #![tactic(auto)]
 
 pub mod compass;
+pub mod grid;
 pub mod shape;
 pub mod step;
 pub mod totals;

@@ -9,7 +9,7 @@ use lib.Dec.{eqb, ltb}
 use borrow.Author.Tests.{eq-eqb, ne_eqb, lt-ltb, le-ltb}
 use Rattle.flow.proofs.Sum.{same}
 use Rattle.flow.proofs.Walk.{below}
-use Rattle.sheet.specs.Leaves.{Cell, SpotOf}
+use Rattle.sheet.specs.Leaves.{Cell, SpotIs}
 use Rattle.sheet.specs.Shape.{TileShape}
 use Rattle.sheet.specs.declared.step.Spot.{Spot}
 use Rattle.sheet.proofs.Places.{place_lt, row_of, col_of}
@@ -27,8 +27,8 @@ pub record At (rows cols b r c : ℕ) : Type 0 where
   pub place_is : r * cols + c ≡ border_place rows cols b
 
 -- as a spot
-pub at_spot : {rows cols b r c : ℕ} → At rows cols b r c → SpotOf rows cols (record { row = r; col = c }) (border_place rows cols b)
-at_spot a = record { place_is = a.place_is; row_le = omega (arith, a.row_in); col_in = a.col_in; none_is = λ e. absurd (omega (arith, a.row_in)) }
+pub at_spot : {rows cols b r c : ℕ} → At rows cols b r c → SpotIs rows cols (record { row = r; col = c }) (border_place rows cols b)
+at_spot a = record { place_is = a.place_is; row_in = a.row_in; col_in = a.col_in }
 
 module _ (rows cols b : ℕ) where
   -- the border cell that has the number b is border cell b
@@ -108,5 +108,5 @@ module _ (rows cols b : ℕ) (lr : 0 < rows) (lc : 0 < cols) (l : b < border_cel
   col_closed = ap (λ (p : ℕ). p % cols) (sym at_closed.place_is) ∙ col_of cols (row_at rows cols b) (col_at rows cols b) at_closed.col_in
 
 -- the spot of a border cell is a cell
-pub tile_cell : {rows cols : ℕ} {s : Spot} {q : ℕ} → TileShape rows cols → SpotOf rows cols s q → s.row < rows → Cell rows cols s.row s.col
-tile_cell shape at l = spot_cell at (omega (arith, shape.rows_most)) (omega (arith, shape.cols_most)) l
+pub tile_cell : {rows cols : ℕ} {s : Spot} {q : ℕ} → TileShape rows cols → SpotIs rows cols s q → Cell rows cols s.row s.col
+tile_cell shape at = spot_cell at (omega (arith, shape.rows_most)) (omega (arith, shape.cols_most))

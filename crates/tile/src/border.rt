@@ -1,16 +1,16 @@
 // The border cells of a tile, by closed forms: how many there are, the number of the one in a row and column, and where a number stands.
 ghost use Rattle.std.specs.Prelude.{true, ◌≡◌, ◌+◌, ◌*◌, ◌<◌};
-ghost use Rattle.sheet.specs.Leaves.{Cell, SpotOf};
-ghost use Rattle.sheet.specs.Shape.{TileShape};
+ghost use Rattle.sheet.specs.Leaves.{Cell, SpotIs};
 ghost use Rattle.tile.specs.Border.{edge_at, border_cells, border_number, border_place};
 
+use sheet::shape::Tile;
 use sheet::step::Spot;
 
 // How many border cells a tile has: with one column or one row all, otherwise each corner once.
-pub fn border_cells(rows: usize, cols: usize) -> usize
-    requires { TileShape rows cols }
-    ensures { result ≡ border_cells rows cols }
+pub fn border_cells(tile: Tile) -> usize
+    ensures { result ≡ border_cells tile.rows tile.cols }
 {
+    let Tile { rows, cols } = tile;
     if cols == 1 {
         return rows;
     }
@@ -20,12 +20,14 @@ pub fn border_cells(rows: usize, cols: usize) -> usize
     2 * rows + 2 * cols - 4
 }
 
-// The number of the border cell of row r and column c. Before row r stand the first row and two cells of each row between.
-pub fn border_number(rows: usize, cols: usize, r: usize, c: usize) -> usize
-    requires cell { Cell rows cols r c }
-    requires on_edge { edge_at rows cols r c ≡ true }
-    ensures { result ≡ border_number rows cols (r * cols + c) }
+// The number of the border cell of a row and column. Before row r stand the first row and two cells of each row between.
+pub fn border_number(tile: Tile, at: Spot) -> usize
+    requires cell { Cell tile.rows tile.cols at.row at.col }
+    requires on_edge { edge_at tile.rows tile.cols at.row at.col ≡ true }
+    ensures { result ≡ border_number tile.rows tile.cols (at.row * tile.cols + at.col) }
 {
+    let Tile { rows, cols } = tile;
+    let Spot { row: r, col: c } = at;
     if cols == 1 {
         return r;
     }
@@ -43,12 +45,11 @@ pub fn border_number(rows: usize, cols: usize, r: usize, c: usize) -> usize
 }
 
 // The row and column of border cell b.
-pub fn border_spot(rows: usize, cols: usize, b: usize) -> Spot
-    requires tile_shape { TileShape rows cols }
-    requires b_bound { b < border_cells rows cols }
-    ensures spot_of { SpotOf rows cols result (border_place rows cols b) }
-    ensures row_lt_rows { result.row < rows }
+pub fn border_spot(tile: Tile, b: usize) -> Spot
+    requires { b < border_cells tile.rows tile.cols }
+    ensures { SpotIs tile.rows tile.cols result (border_place tile.rows tile.cols b) }
 {
+    let Tile { rows, cols } = tile;
     if cols == 1 {
         return Spot { row: b, col: 0 };
     }

@@ -1,18 +1,13 @@
--- `sheet::compass::is_code` meets its contract: the cases of `is_code`.
+-- `sheet::compass::is_code` meets its contract: what `meaning_of` answered tells it.
 -- Assumes nothing.
-use mathlib.Core.Path.{sym, ◌∙◌}
-use borrow.Author.Tests.{eq-eqb, ne_eqb}
-use Rattle.sheet.specs.Compass.{is_absent, is_code}
+use mathlib.Core.Bool.{not}
+use mathlib.Core.Path.{sym, ap, ◌∙◌}
+use Rattle.sheet.proofs.Meaning.{bad_code, good_code}
 use Rattle.sheet.proofs.compass.is_code.Goals as goal
-
-pub returns-then-is_arrow : goal.returns-then-is_arrow
-unfolding is_code
-returns-then-is_arrow c = rw (sym c.is_arrow.ensures ∙ c.if-is_arrow.true)
-
-pub returns-then-code-eq0 : goal.returns-then-code-eq0
-unfolding is_code is_absent
-returns-then-code-eq0 c = rw (sym c.is_arrow.ensures ∙ c.if-is_arrow.false, eq-eqb _ 0 c.if-code-eq0.true)
+use Rattle.sheet.proofs.compass.is_code.Goals.{in-Bad, in_default}
 
 pub returns : goal.returns
-unfolding is_code is_absent
-returns c = rw (sym c.is_arrow.ensures ∙ c.if-is_arrow.false, ne_eqb _ 0 c.if-code-eq0.false)
+returns c = elim c.match-matches.branch [
+  | in-Bad w ↦ ap not w.matches-is ∙ sym (bad_code _ (sym c.meaning_of.ensures ∙ w.in-Bad.is))
+  | in_default w ↦ ap not w.matches-is ∙ sym (good_code _ (λ e. w.in_default.not-Bad (c.meaning_of.ensures ∙ e)))
+]

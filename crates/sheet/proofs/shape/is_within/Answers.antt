@@ -1,7 +1,7 @@
 -- `sheet::shape::is_within` meets its contract: each way through its test is a case of `within`.
 -- Assumes nothing.
 use borrow.Author.Tests.{le-leb, lt-leb}
-use Rattle.sheet.specs.Leaves.{within}
+use Rattle.sheet.specs.Shape.{within}
 use Rattle.sheet.proofs.shape.is_within.Goals as goal
 
 pub returns-then-n-ge1 : goal.returns-then-n-ge1

@@ -5,10 +5,10 @@ use Rattle.tile.proofs.Cells.{cells_thin, cells_flat, cells_round}
 use Rattle.tile.proofs.border.border_cells.Goals as goal
 
 pub returns-then-cols-eq1 : goal.returns-then-cols-eq1
-returns-then-cols-eq1 c = let a = c.args in omega (arith, cells_thin a.rows a.cols (omega arith))
+returns-then-cols-eq1 c = let a = c.args in omega (arith, cells_thin a.tile.rows a.tile.cols (omega arith))
 
 pub returns-then-rows-eq1 : goal.returns-then-rows-eq1
-returns-then-rows-eq1 c = let a = c.args in omega (arith, cells_flat a.rows a.cols (omega arith))
+returns-then-rows-eq1 c = let a = c.args in omega (arith, cells_flat a.tile.rows a.tile.cols (omega arith))
 
 pub returns : goal.returns
-returns c = let a = c.args in omega (arith, cells_round a.rows a.cols (omega arith) (omega arith))
+returns c = let a = c.args in omega (arith, cells_round a.tile.rows a.tile.cols (omega arith) (omega arith))

@@ -6,22 +6,22 @@ use Rattle.tile.proofs.Numbers.{number_thin, number_top, number_foot, number_lef
 use Rattle.tile.proofs.border.border_number.Goals as goal
 
 pub returns-then-cols-eq1 : goal.returns-then-cols-eq1
-returns-then-cols-eq1 c = let a = c.args in omega (arith, number_thin a.rows a.cols a.r a.c (omega arith) (omega arith))
+returns-then-cols-eq1 c = let a = c.args in omega (arith, number_thin a.tile.rows a.tile.cols a.at.row a.at.col (omega arith) (omega arith))
 
 pub returns-then-r-eq0 : goal.returns-then-r-eq0
-returns-then-r-eq0 c = let a = c.args in omega (arith, number_top a.rows a.cols a.r a.c (omega arith) (omega arith))
+returns-then-r-eq0 c = let a = c.args in omega (arith, number_top a.tile.rows a.tile.cols a.at.row a.at.col (omega arith) (omega arith))
 
 pub returns-then-c-eq0 : goal.returns-then-c-eq0
 returns-then-c-eq0 c =
     let a = c.args in
-    omega (arith, number_left a.rows a.cols a.r a.c (omega arith) (omega arith) (omega arith) (omega arith))
+    omega (arith, number_left a.tile.rows a.tile.cols a.at.row a.at.col (omega arith) (omega arith) (omega arith) (omega arith))
 
 pub returns-then-r-rows : goal.returns-then-r-rows
 returns-then-r-rows c =
     let a = c.args in
-    omega (arith, number_right a.rows a.cols a.r a.c (omega arith) (omega arith) (omega arith) (edge_is_right a.rows a.cols a.r a.c c.requires.on_edge (omega arith) (omega arith) (omega arith)))
+    omega (arith, number_right a.tile.rows a.tile.cols a.at.row a.at.col (omega arith) (omega arith) (omega arith) (edge_is_right a.tile.rows a.tile.cols a.at.row a.at.col c.requires.on_edge (omega arith) (omega arith) (omega arith)))
 
 pub returns : goal.returns
 returns c =
     let a = c.args in
-    omega (arith, number_foot a.rows a.cols a.r a.c (omega arith) (omega arith) (omega arith) (omega arith))
+    omega (arith, number_foot a.tile.rows a.tile.cols a.at.row a.at.col (omega arith) (omega arith) (omega arith) (omega arith))
