@@ -3,18 +3,17 @@
 -- Assumes nothing.
 use Prim.Native.Nat.{ℕ, ◌+◌, ◌*◌, ◌≤◌}
 use mathlib.Core.Path.{◌≡◌, sym, ap, ◌∙◌, subst₂}
-use mathlib.Core.List.{List, [], ◌∷◌, ◌++◌, map, append_assoc}
+use mathlib.Core.List.{List, [], ◌∷◌, ◌++◌, append_assoc}
 use mathlib.Core.Logic.{inl, inr}
 use native.Mathlib.Omega.{arith}
 use lib.ListN.{length, replicate, length-replicate, take, drop, take-append-drop}
 use lib.Seq.{take-append-le, take-append_seam}
-use Rattle.std.specs.Prelude.{Ok, Err}
+use Rattle.std.specs.Prelude.{Err}
 use Rattle.sheet.specs.Shape.{Within}
-use Rattle.text.specs.Text.{line, lines, Short, Opens, FirstLine, Proper, GoesOn, StopsAt}
-use Rattle.text.specs.Read.{kept, Opening, ProperOf, Rows, ReadsFirst, Parses}
+use Rattle.sheet.specs.declared.shape.Shape.{Shape}
+use Rattle.text.specs.Text.{line, lines, Short, Opens, Sides, FirstLine, Proper, GoesOn, StopsAt}
+use Rattle.text.specs.Read.{Opening, ProperOf, ReadsFirst, ReadsBody, Parses}
 use Rattle.text.specs.declared.Malformed.{Malformed}
-use Rattle.text.specs.declared.Read.{Read}
-use Rattle.text.specs.declared.Sides.{Sides}
 use Rattle.text.specs.declared.TextError.TheVariants as E
 use Rattle.text.proofs.Flat.{zeros_short}
 use Rattle.std.proofs.lemmas.Bool.{cases_lt}
@@ -113,21 +112,14 @@ module _ (text before after : List ℕ) where
   pub parse_bad : (stop : Malformed) → ReadsFirst text (Err stop) → Parses text before after (Err (E.Malformed stop.at))
   parse_bad stop s = inl (λ v o. s.whole (v.rows, v.cols, o.0, o.1), first_stops text stop.at s)
 
-  module _ (first : Read Sides) (read : ReadsFirst text (Ok first)) where
-    opened : FirstLine text first.value
-    opened = (drop first.next text, read.1)
+  module _ (rows cols next : ℕ) (read : (next ≤ length text) × Opens rows cols (drop next text) text) where
+    opened : FirstLine text (sides rows cols)
+    opened = (drop next text, read.1)
 
-    pub parse_shape : (Within 64 first.value.rows first.value.cols → ⊥) → Parses text before after (Err E.Shape)
-    parse_shape out = (first.value, opened, out)
+    pub parse_shape : (Within 64 rows cols → ⊥) → Parses text before after (Err E.Shape)
+    parse_shape out = (sides rows cols, opened, out)
 
-    pub parse_broken : (k : ℕ) → Within 64 first.value.rows first.value.cols
-        → StopsAt (λ s. (codes : List ℕ) × Rows first.value.rows first.value.cols codes s) (drop first.next text) k → Parses text before after (Err (E.Malformed (first.next + k)))
-    parse_broken k w s =
-        inr (first.value, w, opened, body_stops _ _ (drop first.next text) text (first.next + k) read.1 (after_first text _ _ first.next k read.1 read.0 s))
-
-    pub parse_whole : Within 64 first.value.rows first.value.cols
-        → (codes : List ℕ) × Rows first.value.rows first.value.cols codes (drop first.next text) × (after ≡ map kept codes ++ drop (first.value.rows * first.value.cols) before)
-        → Parses text before after (Ok first.value)
-    parse_whole w h =
-        let opens : Opens first.value.rows first.value.cols (lines first.value.rows first.value.cols h.0) text = rw h.1.reads at read.1 in
-        (h.0, w, record { opens = opens; codes_short = h.1.codes_short; codes_long = h.1.codes_long }, h.2)
+  module _ (shape : Shape 64) (next : ℕ) (read : (next ≤ length text) × Opens shape.rows shape.cols (drop next text) text) where
+    pub parse_broken : (stop : Malformed) → ReadsBody shape.rows shape.cols (drop next text) before after (Err stop) → Parses text before after (Err (E.Malformed (next + stop.at)))
+    parse_broken stop s =
+        inr (sides shape.rows shape.cols, shape.bounds, opened shape.rows shape.cols next read, body_stops _ _ (drop next text) text (next + stop.at) read.1 (after_first text _ _ next stop.at read.1 read.0 s))

@@ -1,12 +1,11 @@
 -- What the functions that read a text, and those that read its parts, promise.
 -- Assumes nothing.
-use Rattle.std.specs.Prelude.{Result, Ok, Err, Bool, cond, ◌&&◌, List, ◌∷◌, ◌++◌, map, ◌⊎◌, ◌≡◌, ℕ, zero, suc, ◌*◌, ◌-◌, ◌≤◌, ltb, length, drop}
-use Rattle.sheet.specs.Leaves.{within}
+use Rattle.std.specs.Prelude.{Result, Ok, Err, cond, List, ◌∷◌, ◌++◌, map, ◌⊎◌, ◌≡◌, ℕ, zero, suc, ◌*◌, ◌-◌, ◌≤◌, ltb, length, drop}
 use Rattle.sheet.specs.Shape.{Within}
-use Rattle.text.specs.Text.{decimal, lines, Each, Short, Opens, Holds, FirstLine, Proper, StopsAt, NoFirstLine}
+use Rattle.sheet.specs.declared.shape.Shape.{Shape}
+use Rattle.text.specs.Text.{decimal, lines, Each, Short, Opens, Holds, Sides, FirstLine, Proper, StopsAt, NoFirstLine}
 use Rattle.text.specs.declared.Malformed.{Malformed}
 use Rattle.text.specs.declared.Read.{Read}
-use Rattle.text.specs.declared.Sides.{Sides}
 use Rattle.text.specs.declared.TextError.{TextError}
 use Rattle.text.specs.declared.TextError.TheVariants as E
 
@@ -16,9 +15,9 @@ kept code = cond (ltb code 256) code 3
 
 -- what reading a text answers: a proper text, whose codes the grid then holds at its start; that the text stops, in its first line or after one
 -- whose sides are within bounds; or a first line whose sides are not
-abbrev pub Parses : (text before after : List ℕ) → Result Sides TextError → Type 0
-Parses text before after (Ok sides) =
-    (codes : List ℕ) × Within 64 sides.rows sides.cols × Holds sides.rows sides.cols codes text × (after ≡ map kept codes ++ drop (sides.rows * sides.cols) before)
+abbrev pub Parses : (text before after : List ℕ) → Result (Shape 64) TextError → Type 0
+Parses text before after (Ok shape) =
+    (codes : List ℕ) × Within 64 shape.rows shape.cols × Holds shape.rows shape.cols codes text × (after ≡ map kept codes ++ drop (shape.rows * shape.cols) before)
 Parses text before after (Err (E.Malformed k)) =
     NoFirstLine text k ⊎ ((sides : Sides) × Within 64 sides.rows sides.cols × FirstLine text sides × StopsAt Proper text k)
 Parses text before after (Err E.Shape) = (sides : Sides) × FirstLine text sides × (Within 64 sides.rows sides.cols → ⊥)
@@ -31,10 +30,6 @@ end_of zero = 10
 end_of (suc right) = 32
 
 -- ---- of its parts
-
--- a test of the sides: 1 to 64 each
-unfoldable pub fits : (rows cols : ℕ) → Bool
-fits rows cols = within rows 64 && within cols 64
 
 -- n bytes of r begin a number, and with the byte after them no number that is followed by `end` goes on
 pub record Stuck (end : ℕ) (r : List ℕ) (n : ℕ) : Type 0 where
@@ -58,8 +53,8 @@ abbrev pub ProperOf : (rows cols : ℕ) → List ℕ → Type 0
 ProperOf rows cols text = (codes : List ℕ) × Holds rows cols codes text
 
 -- the first line, and where it ends; or the text stops in it
-abbrev pub ReadsFirst : List ℕ → Result (Read Sides) Malformed → Type 0
-ReadsFirst text (Ok first) = (first.next ≤ length text) × Opens first.value.rows first.value.cols (drop first.next text) text
+abbrev pub ReadsFirst : List ℕ → Result (Read (ℕ × ℕ)) Malformed → Type 0
+ReadsFirst text (Ok first) = (first.next ≤ length text) × Opens first.value.0 first.value.1 (drop first.next text) text
 ReadsFirst text (Err stop) = StopsAt Opening text stop.at
 
 -- the bytes are lines of codes, one for each row

@@ -2,7 +2,6 @@
 -- A text is a list of bytes; the byte of '0' is 48, of a space 32, of a newline 10.
 -- Assumes nothing.
 use Rattle.std.specs.Prelude.{cond, List, [], ◌∷◌, ◌++◌, ◌≡◌, ℕ, zero, suc, ◌+◌, ◌*◌, ◌/◌, ◌%◌, ◌<◌, ◌≤◌, ltb, length, take, drop, get_or}
-use Rattle.text.specs.declared.Sides.{Sides}
 
 -- ---- numbers and lines
 
@@ -62,6 +61,11 @@ pub record Holds (rows cols : ℕ) (codes text : List ℕ) : Type 0 where
   pub opens : Opens rows cols (lines rows cols codes) text
   pub codes_short : Each Short codes
   pub codes_long : length codes ≡ rows * cols
+
+-- what a first line gives
+pub record Sides : Type 0 where
+  pub rows : ℕ
+  pub cols : ℕ
 
 -- the text's first line is proper and gives these sides
 abbrev pub FirstLine : List ℕ → Sides → Type 0

@@ -3,9 +3,12 @@
 
 ghost use Rattle.std.specs.Prelude.{◌≡◌, ◌*◌, ◌≤◌, length};
 ghost use Rattle.text.specs.Text.{Digit};
-ghost use Rattle.text.specs.Read.{Reads, end_of, kept, fits, ReadsBody, ReadsFirst, Parses};
+ghost use Rattle.text.specs.Read.{Reads, end_of, kept, ReadsBody, ReadsFirst, Parses};
 
-use sheet::shape::is_within;
+use sheet::shape::Shape;
+
+// The most rows, and the most columns, of a sheet given as text.
+pub const MOST: usize = 64;
 
 // What has been read, and where the text goes on after the byte that follows it.
 #[derive(Drop)]
@@ -18,26 +21,6 @@ pub struct Read<T> {
 #[derive(Drop)]
 pub struct Malformed {
     pub at: usize,
-}
-
-// Rows and columns.
-#[derive(Clone, Copy)]
-pub struct Sides {
-    pub rows: usize,
-    pub cols: usize,
-}
-
-impl Sides {
-    // The most of each, of a sheet given as text.
-    const MOST: usize = 64;
-
-    // Whether they are 1 to 64 each.
-    #[tactic(auto, unfolding(crate::specs::Read::fits))]
-    fn fits(self) -> bool
-        ensures { result ≡ fits self.rows self.cols }
-    {
-        is_within(self.rows, Self::MOST) && is_within(self.cols, Self::MOST)
-    }
 }
 
 // Reads the number that stands at `at`, and the byte `end` after it.
@@ -79,16 +62,15 @@ fn keep(code: usize) -> u8
 }
 
 // Reads the lines of codes, a line for each row, into the grid.
-fn read_body(bytes: &[u8], sides: Sides, grid: &mut [u8]) -> Result<(), Malformed>
-    requires { (1 ≤ sides.cols) × (sides.rows * sides.cols ≤ length grid.old) }
-    ensures { ReadsBody sides.rows sides.cols bytes.now grid.old grid.new result }
+fn read_body(bytes: &[u8], shape: Shape<MOST>, grid: &mut [u8]) -> Result<(), Malformed>
+    requires { shape.rows * shape.cols ≤ length grid.old }
+    ensures { ReadsBody shape.rows shape.cols bytes.now grid.old grid.new result }
 {
-    let Sides { rows, cols } = sides;
     let mut at = 0;
-    for row in 0..rows {
-        for col in 0..cols {
-            let number = read_number(bytes, at, end_of(cols - 1 - col))?;
-            grid[row * cols + col] = keep(number.value);
+    for row in 0..shape.rows {
+        for col in 0..shape.cols {
+            let number = read_number(bytes, at, end_of(shape.cols - 1 - col))?;
+            grid[row * shape.cols + col] = keep(number.value);
             at = number.next;
         }
     }
@@ -98,17 +80,14 @@ fn read_body(bytes: &[u8], sides: Sides, grid: &mut [u8]) -> Result<(), Malforme
     Ok(())
 }
 
-// Reads the first line.
-fn read_first(text: &[u8]) -> Result<Read<Sides>, Malformed>
+// Reads the first line: rows and columns.
+fn read_first(text: &[u8]) -> Result<Read<(usize, usize)>, Malformed>
     ensures { ReadsFirst text.now result }
 {
     let rows = read_number(text, 0, b' ')?;
     let cols = read_number(text, rows.next, b'\n')?;
     Ok(Read {
-        value: Sides {
-            rows: rows.value,
-            cols: cols.value,
-        },
+        value: (rows.value, cols.value),
         next: cols.next,
     })
 }
@@ -130,17 +109,18 @@ impl From<Malformed> for TextError {
     }
 }
 
-// Reads a text: its sides, and its codes into the grid.
-pub fn parse(text: &[u8], grid: &mut [u8]) -> Result<Sides, TextError>
+// Reads a text: its shape, and its codes into the grid.
+pub fn parse(text: &[u8], grid: &mut [u8]) -> Result<Shape<MOST>, TextError>
     requires { 4096 ≤ length grid.old }
     ensures { Parses text.now grid.old grid.new result }
 {
-    let Read { value: sides, next } = read_first(text)?;
-    if !sides.fits() {
+    let first = read_first(text)?;
+    let (rows, cols) = first.value;
+    let Some(shape) = Shape::new(rows, cols) else {
         return Err(TextError::Shape);
+    };
+    if let Err(stop) = read_body(&text[first.next..], shape, grid) {
+        return Err(TextError::Malformed(first.next + stop.at));
     }
-    if let Err(stop) = read_body(&text[next..], sides, grid) {
-        return Err(TextError::Malformed(next + stop.at));
-    }
-    Ok(sides)
+    Ok(shape)
 }

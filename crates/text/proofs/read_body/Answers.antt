@@ -21,25 +21,25 @@ read_number-requires c = (c.loop-col.invariant.inside, rw c.end_of.ensures (end_
 pub returns-in_err-number : goal.returns-in_err-number
 returns-in_err-number c =
     let p = err_from_is_err_and c.from_residual.result c.from_residual.ensures.1 in
-    let end = c.end_of.ensures ∙ ap end_of (sym (rights_in (c.args.sides.cols - 1) c.loop-col.col (omega arith))) in
+    let end = c.end_of.ensures ∙ ap end_of (sym (rights_in (c.args.shape.cols - 1) c.loop-col.col (omega arith))) in
     let told = c.in_err-number.ensures in
-    let inside = mul-add-lt c.loop-row.row c.args.sides.cols c.loop-col.col c.args.sides.rows (omega arith) (omega arith) in
-    rw (p.1, p.2) (reached_stuck c.args.sides.rows c.args.sides.cols c.requires.0 c.loop-col.invariant _ (omega arith) told.0 (rw end at told.1))
+    let inside = mul-add-lt c.loop-row.row c.args.shape.cols c.loop-col.col c.args.shape.rows (omega arith) (omega arith) in
+    rw (p.1, p.2) (reached_stuck c.args.shape.rows c.args.shape.cols c.args.shape.bounds.some_col c.loop-col.invariant _ (omega arith) told.0 (rw end at told.1))
 
 pub loop-col-preserved : goal.loop-col-preserved
 loop-col-preserved c =
-    let end = c.end_of.ensures ∙ ap end_of (sym (rights_in (c.args.sides.cols - 1) c.loop-col.col (omega arith))) in
+    let end = c.end_of.ensures ∙ ap end_of (sym (rights_in (c.args.shape.cols - 1) c.loop-col.col (omega arith))) in
     let told = c.in_ok-number.ensures in
-    let inside = mul-add-lt c.loop-row.row c.args.sides.cols c.loop-col.col c.args.sides.rows (omega arith) (omega arith) in
+    let inside = mul-add-lt c.loop-row.row c.args.shape.cols c.loop-col.col c.args.shape.rows (omega arith) (omega arith) in
     rw c.keep.ensures (reached_at (rights_next _ _ (omega arith)) (omega arith) (reached_more _ _ c.loop-col.invariant (omega arith) told.0 told.1 (rw end at told.2)))
 
 pub loop-row-preserved : goal.loop-row-preserved
 loop-row-preserved c =
-    let last : c.loop-col.col ≡ c.args.sides.cols - 1 + 1 = omega arith in
-    reached_at (ap (rights (c.args.sides.cols - 1)) last ∙ rights_end _) (omega arith) c.loop-col.invariant
+    let last : c.loop-col.col ≡ c.args.shape.cols - 1 + 1 = omega arith in
+    reached_at (ap (rights (c.args.shape.cols - 1)) last ∙ rights_end _) (omega arith) c.loop-col.invariant
 
 pub returns-then-at-bytes : goal.returns-then-at-bytes
-returns-then-at-bytes c = reached_extra _ _ c.requires.0 c.loop-row.invariant (grind arith) c.if-at-bytes.true
+returns-then-at-bytes c = reached_extra _ _ c.args.shape.bounds.some_col c.loop-row.invariant (grind arith) c.if-at-bytes.true
 
 pub returns : goal.returns
-returns c = reached_whole _ _ c.requires.0 c.loop-row.invariant (grind arith) c.if-at-bytes.false
+returns c = reached_whole _ _ c.args.shape.bounds.some_col c.loop-row.invariant (grind arith) c.if-at-bytes.false
