@@ -10,9 +10,9 @@ use Rattle.std.proofs.lemmas.List.{take_more}
 use Rattle.std.proofs.lemmas.List.Folds.{length-flat_map-take}
 use Rattle.text.specs.Text.{decimal}
 use Rattle.writer.specs.declared.Writer.{Writer}
-use Rattle.writer.specs.Wrote.{Room, Writes}
+use Rattle.writer.specs.Parts.{Room, Writes}
 use Rattle.writer.proofs.Wrote.{writes_long}
-use Rattle.show.specs.Show.{items}
+use Rattle.show.specs.Parts.{items}
 use Rattle.show.specs.declared.Item.{Item}
 
 module _ (xs : List Item) (i : ℕ) (d : Item) (h : i < length xs) where

@@ -10,7 +10,7 @@ use Rattle.text.specs.Read.{end_of}
 use Rattle.text.proofs.Flat.{turn, flat, flat_cons, flat_nil, flat_rows}
 use Rattle.text.proofs.Scan.{next_byte}
 use Rattle.writer.specs.declared.Writer.{Writer}
-use Rattle.writer.specs.Wrote.{Writes, Room}
+use Rattle.writer.specs.Parts.{Room, Writes}
 use Rattle.writer.proofs.Wrote.{writes_none, writes_long, writes_then, writes_is}
 
 -- how far a grid of numbers has been written: q numbers

@@ -1,12 +1,10 @@
 -- What the count program writes (paper 01, "The count program"): lines of words and numbers, as bytes.
 -- Assumes nothing.
 use Rattle.std.specs.Prelude.{List, [], ◌∷◌, ◌++◌, ℕ}
-use Rattle.std.specs.List.{flat_map}
 use Prim.Native.Char.{code}
 use Prim.Native.String.{String}
 use Prim.Native.String as S
 use Rattle.text.specs.Text.{decimal, lines}
-use Rattle.show.specs.declared.Item.{Item}
 
 -- the bytes of a word
 unfoldable pub word : String → List ℕ
@@ -16,10 +14,6 @@ word (S.◌∷◌ c s) = code c ∷ word s
 -- a word and a number
 abbrev pub item : String → ℕ → List ℕ
 item w n = word w ++ decimal n
-
--- the same of a line's items as the program holds them, one after the other
-abbrev pub items : List Item → List ℕ
-items = flat_map (λ i. i.0.now ++ decimal i.1)
 
 -- ---- a refusal is one line: its number, and a place and a loop's length where there are any
 

@@ -3,9 +3,12 @@
 
 ghost use Rattle.std.specs.Prelude.{◌≡◌, [], ◌∷◌, ◌++◌, ◌+◌, ◌*◌, ◌≤◌, length};
 ghost use Rattle.text.specs.Text.{decimal, lines};
-ghost use Rattle.writer.specs.Wrote.{Room, Writes};
-ghost use Rattle.show.specs.Show.{items, refusal, done};
+ghost use Rattle.writer.specs.Parts.{Room, Writes};
+ghost use Rattle.show.specs.Parts.{items};
+ghost use Rattle.show.specs.Show.{refusal, done};
 
+use sheet::shape::Shape;
+use text::{MOST, end_of};
 use writer::Writer;
 
 // Writes a number.
@@ -21,15 +24,15 @@ fn write_number(to: &mut Writer, n: usize)
 }
 
 // Writes a grid of numbers, a line for each row.
-fn write_grid(to: &mut Writer, rows: usize, cols: usize, numbers: &[u32])
-    requires grid { (1 ≤ cols) × (length numbers.now ≡ rows * cols) }
-    requires room { Room (length (lines rows cols numbers.now)) to.old }
-    ensures { Writes (lines rows cols numbers.now) to.old to.new }
+fn write_grid(to: &mut Writer, shape: Shape<MOST>, numbers: &[u32])
+    requires grid { length numbers.now ≡ shape.rows * shape.cols }
+    requires room { Room (length (lines shape.rows shape.cols numbers.now)) to.old }
+    ensures { Writes (lines shape.rows shape.cols numbers.now) to.old to.new }
 {
-    for row in 0..rows {
-        for col in 0..cols {
-            write_number(to, numbers[row * cols + col] as usize);
-            to.byte(text::end_of(cols - 1 - col));
+    for row in 0..shape.rows {
+        for col in 0..shape.cols {
+            write_number(to, numbers[row * shape.cols + col] as usize);
+            to.byte(end_of(shape.cols - 1 - col));
         }
     }
 }
@@ -72,19 +75,21 @@ pub fn write_refusal(to: &mut Writer, n: usize, values: &[usize])
 // Writes a whole answer: the shape, the counts by row, and the totals.
 pub fn write_done(
     to: &mut Writer,
-    rows: usize,
-    cols: usize,
+    shape: Shape<MOST>,
     counts: &[u32],
     land: usize,
     outlets: usize,
     greatest: u32,
 )
-    requires grid { (1 ≤ cols) × (length counts.now ≡ rows * cols) }
-    requires room { Room (200 + length (lines rows cols counts.now)) to.old }
-    ensures { Writes (done rows cols counts.now land outlets greatest) to.old to.new }
+    requires grid { length counts.now ≡ shape.rows * shape.cols }
+    requires room { Room (200 + length (lines shape.rows shape.cols counts.now)) to.old }
+    ensures { Writes (done shape.rows shape.cols counts.now land outlets greatest) to.old to.new }
 {
-    write_line(to, &[Item(b"rows ", rows), Item(b" cols ", cols)]);
-    write_grid(to, rows, cols, counts);
+    write_line(
+        to,
+        &[Item(b"rows ", shape.rows), Item(b" cols ", shape.cols)],
+    );
+    write_grid(to, shape, counts);
     write_line(
         to,
         &[

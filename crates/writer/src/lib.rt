@@ -2,7 +2,7 @@
 #![tactic(auto)]
 
 ghost use Rattle.std.specs.Prelude.{[], ◌∷◌, ◌≡◌, length};
-ghost use Rattle.writer.specs.Wrote.{Room, Writes};
+ghost use Rattle.writer.specs.Parts.{Room, Writes};
 
 // A buffer, and where the next byte goes.
 #[derive(Drop)]

@@ -10,18 +10,18 @@ use Rattle.show.proofs.write_done.Goals as goal
 
 pub write_line-requires : goal.write_line-requires
 write_line-requires c =
-    simp length-append (omega (arith, decimal_20 c.args.rows c.ranges.rows.fits, decimal_20 c.args.cols c.ranges.cols.fits))
+    simp length-append (omega (arith, decimal_20 c.args.shape.rows (omega (arith, c.args.shape.bounds.rows_most)), decimal_20 c.args.shape.cols (omega (arith, c.args.shape.bounds.cols_most))))
 
 pub write_grid-requires-clause-room : goal.write_grid-requires-clause-room
 unfolding word
 write_grid-requires-clause-room c =
-    let w = writes_is (shape_is c.args.rows c.args.cols) c.write_line.ensures in
-    omega (arith, w.wrote.next_is, writes_long w, shape_long c.args.rows c.args.cols c.ranges.rows.fits c.ranges.cols.fits)
+    let w = writes_is (shape_is c.args.shape.rows c.args.shape.cols) c.write_line.ensures in
+    omega (arith, w.wrote.next_is, writes_long w, shape_long c.args.shape.rows c.args.shape.cols (omega (arith, c.args.shape.bounds.rows_most)) (omega (arith, c.args.shape.bounds.cols_most)))
 
 pub write_line-requires-2 : goal.write_line-requires-2
 unfolding word
 write_line-requires-2 c =
-    let w = writes_is (shape_is c.args.rows c.args.cols) c.write_line.ensures in
+    let w = writes_is (shape_is c.args.shape.rows c.args.shape.cols) c.write_line.ensures in
     let g = c.write_grid.ensures in
     simp length-append (omega (
       arith,
@@ -29,7 +29,7 @@ write_line-requires-2 c =
       writes_long w,
       g.wrote.next_is,
       writes_long g,
-      shape_long c.args.rows c.args.cols c.ranges.rows.fits c.ranges.cols.fits,
+      shape_long c.args.shape.rows c.args.shape.cols (omega (arith, c.args.shape.bounds.rows_most)) (omega (arith, c.args.shape.bounds.cols_most)),
       decimal_20 c.args.land c.ranges.land.fits,
       decimal_20 c.args.outlets c.ranges.outlets.fits,
       decimal_20 c.args.greatest (omega arith),
@@ -38,5 +38,5 @@ write_line-requires-2 c =
 pub returns : goal.returns
 unfolding word
 returns c =
-    writes_then (writes_then (writes_is (shape_is c.args.rows c.args.cols) c.write_line.ensures) c.write_grid.ensures)
+    writes_then (writes_then (writes_is (shape_is c.args.shape.rows c.args.shape.cols) c.write_line.ensures) c.write_grid.ensures)
     (writes_is (totals_is c.args.land c.args.outlets c.args.greatest) c.write_line-2.ensures)

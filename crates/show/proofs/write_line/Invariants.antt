@@ -1,7 +1,7 @@
 -- The loop of `show::write_line`: the items so far have been written.
 use lib.ListN.{take}
-use Rattle.writer.specs.Wrote.{Writes}
-use Rattle.show.specs.Show.{items}
+use Rattle.writer.specs.Parts.{Writes}
+use Rattle.show.specs.Parts.{items}
 use Rattle.show.proofs.write_line.Given as goal
 
 abbrev pub invariant-loop-word : goal.invariant-loop-word
