@@ -8,6 +8,7 @@ use Rattle.text.specs.declared.Malformed.{Malformed}
 use Rattle.text.specs.declared.Read.{Read}
 use Rattle.text.specs.declared.TextError.{TextError}
 use Rattle.text.specs.declared.TextError.TheVariants as E
+use Rattle.text.specs.declared.TheConstants.{MOST}
 
 -- a code as a grid of bytes keeps it: one above 255, which no byte holds, as another bad code
 unfoldable pub kept : ℕ → ℕ
@@ -15,7 +16,7 @@ kept code = cond (ltb code 256) code 3
 
 -- what reading a text answers: a proper text, whose codes the grid then holds at its start; that the text stops, in its first line or after one
 -- whose sides are within bounds; or a first line whose sides are not
-abbrev pub Parses : (text before after : List ℕ) → Result (Shape 64) TextError → Type 0
+abbrev pub Parses : (text before after : List ℕ) → Result (Shape MOST) TextError → Type 0
 Parses text before after (Ok shape) =
     (codes : List ℕ) × Within 64 shape.rows shape.cols × Holds shape.rows shape.cols codes text × (after ≡ map kept codes ++ drop (shape.rows * shape.cols) before)
 Parses text before after (Err (E.Malformed k)) =
