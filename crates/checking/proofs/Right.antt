@@ -16,8 +16,9 @@ use Rattle.flow.specs.Net.{given}
 use Rattle.flow.proofs.Sum.{on_true, on_false}
 use Rattle.sheet.specs.Sheet.{land_at, dest_of, unit, count_at}
 use Rattle.sheet.proofs.Given.{given_absent}
+use Rattle.sheet.specs.declared.grid.Grid.{Grid}
 use Rattle.checking.specs.Check.{CountOk}
-use Rattle.checking.specs.Leaf.{RightBelow, right_at}
+use Rattle.checking.specs.Leaf.{RightBelow, CountOkIn, right_at}
 
 module _ (rows cols : ℕ) (g c : List ℕ) (p : ℕ) where
   -- the test says what it should
@@ -45,8 +46,8 @@ module _ (rows cols : ℕ) (g c : List ℕ) (p : ℕ) where
 -- ---- row by row
 
 -- one place more is right
-pub right_more : (rows cols : ℕ) (g c : List ℕ) (k : ℕ) {m : ℕ} → m ≡ k + 1 → RightBelow rows cols g c k → CountOk rows cols g c k → RightBelow rows cols g c m
-right_more rows cols g c k e below here q l = below_more _ _ below here q (omega arith)
+pub right_more : (g : Grid) (c : List ℕ) (k : ℕ) {m : ℕ} → m ≡ k + 1 → RightBelow g c k → CountOkIn g c k → RightBelow g c m
+right_more g c k e below here q l = below_more _ _ below here q (omega arith)
 
 -- the end of a row, and the start of the next
 pub row_end : (rows cols r : ℕ) → r < rows → r * cols + cols ≤ rows * cols

@@ -1,22 +1,22 @@
 -- The promise of checking (paper 01, "Replies and what remains"): 1, 2, 3, 5, done. Checking writes to no buffer, so an outcome is a reply.
 -- Assumes nothing.
-use Rattle.std.specs.Prelude.{List, [], ◌∷◌, ℕ, ◌*◌, ◌<◌}
+use Rattle.std.specs.Prelude.{Result, Ok, Err, List, [], ◌∷◌, ℕ, ◌*◌, ◌<◌}
 use Rattle.flow.specs.Net.{CountsAt}
 use Rattle.promise.specs.Links.{Unless, UnlessAll, Exactly, ◌then◌}
 use Rattle.promise.specs.Reply.{Reply}
 use Rattle.promise.specs.Reply.Reply.{reply}
 use Rattle.sheet.specs.Shape.{SheetShape}
 use Rattle.sheet.specs.Sheet.{CodeOk, SheetLengths, SheetCounts, dest_of, unit, count_at}
-use Rattle.checking.specs.declared.CheckReply.{CheckReply}
-use Rattle.checking.specs.declared.CheckReply.TheVariants.{Done, Shape, Length, Code, Count}
+use Rattle.checking.specs.declared.CheckError.{CheckError}
+use Rattle.checking.specs.declared.CheckError.TheVariants.{Shape, Length, Code, Count}
 
 -- the paper's number and values for each answer
-abbrev pub check_reply : CheckReply → Reply
-check_reply Done = reply 0 []
-check_reply Shape = reply 1 []
-check_reply Length = reply 2 []
-check_reply (Code place) = reply 3 (place ∷ [])
-check_reply (Count place) = reply 5 (place ∷ [])
+abbrev pub check_reply : Result (Unit {0}) CheckError → Reply
+check_reply (Ok done) = reply 0 []
+check_reply (Err Shape) = reply 1 []
+check_reply (Err Length) = reply 2 []
+check_reply (Err (Code place)) = reply 3 (place ∷ [])
+check_reply (Err (Count place)) = reply 5 (place ∷ [])
 
 -- equation 1 at place p: the count is 1 plus the counts of the land cells whose arrows step onto p. At an absent cell, which adds nothing and
 -- is given nothing, it says 0

@@ -1,24 +1,21 @@
 // Checking the counts of a whole sheet: each cell is held to the count equation. No cell on a loop can satisfy it, so nothing else is tried.
 #![tactic(auto)]
 
-ghost use Rattle.std.specs.Prelude.{◌≡◌, ◌+◌, ◌*◌, ◌<◌};
+ghost use Rattle.std.specs.Prelude.{◌≡◌, ◌+◌, ◌*◌, ◌<◌, length};
 ghost use Rattle.promise.specs.First.{Finds};
-ghost use Rattle.sheet.specs.Leaves.{Laid, Cell};
-ghost use Rattle.sheet.specs.Shape.{SheetShape};
-ghost use Rattle.sheet.specs.Sheet.{SheetLengths};
-ghost use Rattle.checking.specs.Check.{CheckPromise, CheckCells, CountOk, check_reply};
-ghost use Rattle.checking.specs.Leaf.{RightBelow, right_at};
+ghost use Rattle.sheet.specs.Grid.{OnGrid, cells_in, place_in};
+ghost use Rattle.checking.specs.Check.{CheckPromise, CheckCells, check_reply};
+ghost use Rattle.checking.specs.Leaf.{CountOkIn, RightBelow, right_in};
 
 use around::givers_sum_at;
-use promise::Found;
-use sheet::compass::is_arrow;
-use sheet::shape::{Sheet, SheetMade};
+use sheet::grid::Grid;
+use sheet::shape::Sheet;
+use sheet::step::Spot;
 use sheet::totals::first_bad_code;
 
-// The paper's replies to checking.
-#[derive(Drop)]
-pub enum CheckReply {
-    Done,
+// Why counts are not taken as those of a grid.
+#[derive(Clone, Copy, PartialEq, Eq, Debug)]
+pub enum CheckError {
     Shape,
     Length,
     Code(usize),
@@ -26,80 +23,70 @@ pub enum CheckReply {
 }
 
 // Whether the counts are those of the grid, or what is wrong.
-pub fn check(rows: usize, cols: usize, grid: &[u8], counts: &[u32]) -> CheckReply
+pub fn check(rows: usize, cols: usize, grid: &[u8], counts: &[u32]) -> Result<(), CheckError>
     ensures { CheckPromise rows cols grid.now counts.now (check_reply result) }
 {
-    let SheetMade::Fits(s) = Sheet::make(rows, cols) else {
-        return CheckReply::Shape;
-    };
-    let n = s.cells;
-    if grid.len() != n {
-        return CheckReply::Length;
+    let sheet = Sheet::new(rows, cols).ok_or(CheckError::Shape)?;
+    let grid = Grid::new(sheet, grid).ok_or(CheckError::Length)?;
+    if counts.len() != sheet.cells() {
+        return Err(CheckError::Length);
     }
-    if counts.len() != n {
-        return CheckReply::Length;
-    }
-    check_cells(rows, cols, grid, counts)
+    check_cells(&grid, counts)
 }
 
 // The same where shape and lengths fit.
-fn check_cells(rows: usize, cols: usize, grid: &[u8], counts: &[u32]) -> CheckReply
-    requires sheet_shape { SheetShape rows cols }
-    requires sheet_lengths { SheetLengths rows cols grid.now counts.now }
-    ensures { CheckCells rows cols grid.now counts.now (check_reply result) }
+fn check_cells(grid: &Grid<'_>, counts: &[u32]) -> Result<(), CheckError>
+    requires { length counts.now ≡ cells_in grid.now }
+    ensures { CheckCells grid.now.sheet.rows grid.now.sheet.cols grid.now.codes.now counts.now (check_reply result) }
 {
-    if let Found::At(p) = first_bad_code(grid) {
-        return CheckReply::Code(p);
+    if let Some(place) = first_bad_code(grid.codes) {
+        return Err(CheckError::Code(place));
     }
-    if let Found::At(p) = first_wrong(rows, cols, grid, counts) {
-        return CheckReply::Count(p);
+    match first_wrong(grid, counts) {
+        Some(place) => Err(CheckError::Count(place)),
+        None => Ok(()),
     }
-    CheckReply::Done
 }
 
 // The first place that breaks the count equation, row by row, so that nothing is divided.
-fn first_wrong(rows: usize, cols: usize, grid: &[u8], counts: &[u32]) -> Found
-    requires { Laid rows cols grid.now counts.now }
-    ensures { Finds (rows * cols) (CountOk rows cols grid.now counts.now) result }
+fn first_wrong(grid: &Grid<'_>, counts: &[u32]) -> Option<usize>
+    requires { length counts.now ≡ cells_in grid.now }
+    ensures { Finds (cells_in grid.now) (CountOkIn grid.now counts.now) result }
 {
-    let mut r = 0;
-    while r < rows {
-        if let Found::At(p) = wrong_in_row(rows, cols, grid, counts, r) {
-            return Found::At(p);
+    for row in 0..grid.sheet.rows {
+        if let Some(place) = wrong_in_row(grid, counts, row) {
+            return Some(place);
         }
-        r += 1;
     }
-    Found::Nothing
+    None
 }
 
-// The first place up to the end of row r that breaks the equation, where none does in the rows before.
-fn wrong_in_row(rows: usize, cols: usize, grid: &[u8], counts: &[u32], r: usize) -> Found
-    requires laid { Laid rows cols grid.now counts.now }
-    requires r_lt_rows { r < rows }
-    requires right_below { RightBelow rows cols grid.now counts.now (r * cols) }
-    ensures { Finds (r * cols + cols) (CountOk rows cols grid.now counts.now) result }
+// The first place up to the end of a row that breaks the equation, where none does in the rows before.
+fn wrong_in_row(grid: &Grid<'_>, counts: &[u32], row: usize) -> Option<usize>
+    requires row_in { row < grid.now.sheet.rows }
+    requires counts_len { length counts.now ≡ cells_in grid.now }
+    requires right_below { RightBelow grid.now counts.now (row * grid.now.sheet.cols) }
+    ensures { Finds (row * grid.now.sheet.cols + grid.now.sheet.cols) (CountOkIn grid.now counts.now) result }
 {
-    let mut c = 0;
-    while c < cols {
-        if !is_right(rows, cols, grid, counts, r, c) {
-            let p = r * cols + c;
-            return Found::At(p);
+    for col in 0..grid.sheet.cols {
+        let at = Spot { row, col };
+        if !is_right(grid, counts, at) {
+            return Some(grid.sheet.place(at));
         }
-        c += 1;
     }
-    Found::Nothing
+    None
 }
 
-// Whether the cell of row r and column c satisfies the count equation. The sum is taken in 64 bits, wide enough for eight counts, whatever
-// they are.
-fn is_right(rows: usize, cols: usize, grid: &[u8], counts: &[u32], r: usize, c: usize) -> bool
-    requires laid { Laid rows cols grid.now counts.now }
-    requires cell { Cell rows cols r c }
-    ensures { result ≡ right_at rows cols grid.now counts.now (r * cols + c) }
+// Whether a cell satisfies the count equation. The sum is taken in 64 bits, wide enough for eight counts, whatever they are.
+fn is_right(grid: &Grid<'_>, counts: &[u32], at: Spot) -> bool
+    requires on_grid { OnGrid grid.now at }
+    requires counts_len { length counts.now ≡ cells_in grid.now }
+    ensures { result ≡ right_in grid.now counts.now (place_in grid.now at) }
 {
-    let p = r * cols + c;
-    if is_arrow(grid[p]) {
-        return counts[p] as u64 == givers_sum_at(rows, cols, grid, counts, r, c) + 1;
+    let p = grid.sheet.place(at);
+    if grid.is_land(p) {
+        u64::from(counts[p]) == givers_sum_at(grid, counts, at) + 1
+    } else {
+        counts[p] == 0
     }
-    counts[p] == 0
 }

@@ -1,10 +1,7 @@
--- The loops of `checking::wrong_in_row`: what they keep, and what falls.
-use Prim.Native.Nat.{◌+◌, ◌-◌, ◌*◌, ◌≤◌}
+-- The loop of `checking::wrong_in_row`: what it keeps.
+use Prim.Native.Nat.{◌+◌, ◌*◌}
 use Rattle.checking.specs.Leaf.{RightBelow}
 use Rattle.checking.proofs.wrong_in_row.Given as goal
 
-abbrev pub invariant-loop-c : goal.invariant-loop-c
-invariant-loop-c l = (l.c ≤ l.cols) × RightBelow l.rows l.cols l.grid l.counts (l.r * l.cols + l.c)
-
-abbrev pub decreases-loop-c : goal.decreases-loop-c
-decreases-loop-c l = l.cols - l.c
+abbrev pub invariant-loop-col : goal.invariant-loop-col
+invariant-loop-col l = RightBelow l.grid l.counts (l.row * l.grid.sheet.cols + l.col)
