@@ -1,8 +1,8 @@
 -- How long numbers and lines are.
 -- Assumes nothing.
 use Prim.Native.Nat.{ℕ, suc, ◌+◌, ◌*◌, ◌-◌, ◌^◌, ◌<◌, ◌≤◌}
-use mathlib.Core.Path.{◌≡◌, sym, ap}
-use mathlib.Core.List.{List, [], ◌∷◌, ◌++◌, append_assoc}
+use mathlib.Core.Path.{◌≡◌, ap}
+use mathlib.Core.List.{List, [], ◌∷◌}
 use native.Mathlib.Nat.{mul-suc}
 use native.Mathlib.Omega.{arith}
 use lib.ListN.{length, get_or, length-append}
@@ -13,9 +13,6 @@ use Rattle.text.proofs.Flat.{turn, flat, flat_cons, flat_nil, flat_rows}
 
 pub decimal_20 : (n : ℕ) → n < 2 ^ 64 → length (decimal n) ≤ 20
 decimal_20 n h = decimal_most 19 n (omega arith)
-
-pub item_long : (w : List ℕ) (n : ℕ) → n < 2 ^ 64 → length (w ++ decimal n) ≤ length w + 20
-item_long w n h = omega (arith, length-append w (decimal n), decimal_20 n h)
 
 flat_most : (m c right : ℕ) (xs : List ℕ) → ((i : ℕ) → get_or xs i 0 < 10 ^ suc m) → length (flat c right xs) ≤ (m + 2) * length xs
 flat_most m c right [] h = rw (flat_nil c right) (omega arith)
@@ -31,6 +28,3 @@ flat_most m c right (x ∷ xs) h =
 -- lines of numbers of at most m + 1 digits
 pub lines_most : (m rows cols : ℕ) (xs : List ℕ) → 1 ≤ cols → length xs ≡ rows * cols → ((i : ℕ) → get_or xs i 0 < 10 ^ suc m) → length (lines rows cols xs) ≤ (m + 2) * (rows * cols)
 lines_most m rows cols xs some long h = omega (arith, ap length (flat_rows rows cols xs some long), rw long at (flat_most m (cols - 1) (cols - 1) xs h))
-
-pub three_parts : (a b d z : List ℕ) → a ++ (b ++ d ++ z) ≡ a ++ (b ++ d) ++ z
-three_parts a b d z = sym (append_assoc a (b ++ d) z)

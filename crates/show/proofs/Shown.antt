@@ -1,7 +1,7 @@
 -- Laws of numbers that are written in lines, number by number.
 -- Assumes nothing.
 use Prim.Native.Nat.{ℕ, ◌+◌, ◌*◌, ◌-◌, ◌<◌, ◌≤◌}
-use mathlib.Core.Path.{◌≡◌, refl, sym, ap, ◌∙◌}
+use mathlib.Core.Path.{◌≡◌, sym, ap, ◌∙◌}
 use mathlib.Core.List.{List, [], ◌∷◌, ◌++◌, append_assoc, append-nil}
 use native.Mathlib.Omega.{arith}
 use lib.ListN.{length, get_or, drop, length-append, drop_of_length-le}
@@ -11,16 +11,13 @@ use Rattle.text.proofs.Flat.{turn, flat, flat_cons, flat_nil, flat_rows}
 use Rattle.text.proofs.Scan.{next_byte}
 use Rattle.writer.specs.declared.Writer.{Writer}
 use Rattle.writer.specs.Parts.{Room, Writes}
-use Rattle.writer.proofs.Wrote.{writes_none, writes_long, writes_then, writes_is}
+use Rattle.writer.proofs.Wrote.{writes_long, writes_then, writes_is}
 
 -- how far a grid of numbers has been written: q numbers
 pub record Shown (c : ℕ) (numbers : List ℕ) (before after : Writer) (right q : ℕ) : Type 0 where
   pub so_far : List ℕ
   pub wrote : Writes so_far before after
   pub ahead : flat c c numbers ≡ so_far ++ flat c right (drop q numbers)
-
-pub shown_none : (c : ℕ) (numbers : List ℕ) (w : Writer) → w.at ≤ length w.out.now → Shown c numbers w w c 0
-shown_none c numbers w h = record { so_far = []; wrote = writes_none w h; ahead = refl }
 
 pub shown_at : {c : ℕ} {numbers : List ℕ} {before after : Writer} {right right' q q' : ℕ} → right ≡ right' → q ≡ q' → Shown c numbers before after right q → Shown c numbers before after right' q'
 shown_at e f s = rw (← e, ← f) s

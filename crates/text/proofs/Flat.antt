@@ -148,9 +148,6 @@ reached_more {c} {bytes} {before} {grid} {right} {at} {q} v next r room short in
 pub reached_at : {c : ℕ} {bytes before grid : List ℕ} {right right' at q q' : ℕ} → right ≡ right' → q ≡ q' → Reached c bytes before grid right at q → Reached c bytes before grid right' at q'
 reached_at e f r = rw (← e, ← f) r
 
-pub reached_long : {c : ℕ} {bytes before grid : List ℕ} {right at q : ℕ} → Reached c bytes before grid right at q → q ≤ length before → length grid ≡ length before
-reached_long {c} {bytes} {before} {grid} {right} {at} {q} r l = omega (arith, simp (length-append, length-drop, length-map) at (ap length r.stored), r.long)
-
 pub zeros_short : (n : ℕ) → Each Short (replicate n 0)
 zeros_short zero = tt
 zeros_short (suc n) = (omega arith, zeros_short n)

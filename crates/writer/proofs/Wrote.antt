@@ -1,12 +1,11 @@
 -- Laws of what has been written.
 -- Assumes nothing.
-use Prim.Native.Nat.{ℕ, ◌+◌, ◌<◌, ◌≤◌}
+use Prim.Native.Nat.{ℕ, ◌≤◌}
 use mathlib.Core.Path.{◌≡◌, refl, sym, ap, ◌∙◌}
-use mathlib.Core.List.{List, [], ◌∷◌, ◌++◌, append_assoc}
+use mathlib.Core.List.{List, [], ◌++◌, append_assoc}
 use native.Mathlib.Omega.{arith}
-use native.Mathlib.Numerals.{add-one}
-use lib.ListN.{length, take, drop, set, length-append, length-drop, take-append-drop}
-use lib.Seq.{length-take-le, take_at, drop-append-add, drop-drop, set_split}
+use lib.ListN.{length, take, drop, length-append, length-drop, take-append-drop}
+use lib.Seq.{length-take-le, take_at, drop-append-add, drop-drop}
 use Rattle.writer.specs.Parts.{Writes}
 use Rattle.writer.specs.Wrote.{Wrote}
 use Rattle.writer.specs.declared.Writer.{Writer}
@@ -16,13 +15,6 @@ wrote_none out at h = record {
   room = omega arith;
   next_is = omega arith;
   out_is = sym (take-append-drop at out);
-}
-
-pub wrote_byte : (out : List ℕ) (at b : ℕ) → at < length out → Wrote (b ∷ []) out at (set out at b) (at + 1)
-wrote_byte out at b h = record {
-  room = omega arith;
-  next_is = omega arith;
-  out_is = rw (add-one, set_split out at b h);
 }
 
 head_long : {bytes out after : List ℕ} {at next : ℕ} → Wrote bytes out at after next → length (take at out ++ bytes) ≡ next
@@ -43,9 +35,6 @@ wrote_then {a} {b} {out} {mid} {after} {at} {mark} {next} x y =
       next_is = omega (arith, length-append a b, x.next_is, y.next_is);
       out_is = y.out_is ∙ rw (kept, left) (simp append_assoc);
     }
-
-pub wrote_is : {a b out after : List ℕ} {at next : ℕ} → a ≡ b → Wrote a out at after next → Wrote b out at after next
-wrote_is e w = rw e at w
 
 -- ---- of a writer
 
