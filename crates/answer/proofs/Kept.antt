@@ -13,7 +13,7 @@ use Rattle.promise.specs.Links.UnlessAll.{refused_at, met_all}
 use Rattle.sheet.specs.Compass.{is_arrow, is_absent, is_code, line_of}
 use Rattle.sheet.specs.Sheet.{CodeOk, code_at}
 use Rattle.text.specs.Read.{kept}
-use Rattle.text.proofs.Decimal.{below?}
+use Rattle.std.proofs.lemmas.Bool.{cases_lt}
 use Rattle.answer.specs.Answer.{Told}
 
 kept_small : (c : ℕ) → c < 256 → kept c ≡ c
@@ -47,7 +47,7 @@ three_bad = refl
 
 pub kept_code : (c : ℕ) → is_code (kept c) ≡ is_code c
 kept_code c =
-    elim (below? c 256) [
+    elim (cases_lt c 256) [
       | inl l ↦ ap is_code (kept_small c l)
       | inr l ↦ ap is_code (kept_large c l) ∙ three_bad ∙ sym (large_bad c l)
     ]
@@ -67,7 +67,7 @@ module _ (codes : List ℕ) where
   all_kept h =
       ext_get_or 255 (map kept codes) codes (length-map codes kept) (λ q l.
       let inside : q < length codes = omega (arith, length-map codes kept) in
-      kept_at q ∙ elim (below? (code_at codes q) 256) [
+      kept_at q ∙ elim (cases_lt (code_at codes q) 256) [
         | inl s ↦ kept_small (code_at codes q) s
         | inr s ↦ absurd (true≢false (sym (h q inside) ∙ large_bad (code_at codes q) s))
       ])

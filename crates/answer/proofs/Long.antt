@@ -12,10 +12,11 @@ use Rattle.promise.specs.Links.UnlessSome.{refused_with, met_none}
 use Rattle.promise.specs.Links.Given.{given}
 use Rattle.sheet.specs.Shape.{Within}
 use Rattle.text.specs.Text.{decimal, line, lines, Each, Short, Opens, Holds, Sides, FirstLine, NoFirstLine, Proper, GoesOn, StopsAt}
-use Rattle.text.specs.Read.{end_of, turn}
+use Rattle.std.proofs.lemmas.Bool.{cases_lt}
+use Rattle.text.specs.Read.{end_of}
 use Rattle.text.proofs.Begin.{area, two, opens_one}
-use Rattle.text.proofs.Decimal.{below?, decimal_most}
-use Rattle.text.proofs.Flat.{flat, flat_cons, flat_nil, flat_rows}
+use Rattle.text.proofs.Decimal.{decimal_most}
+use Rattle.text.proofs.Flat.{turn, flat, flat_cons, flat_nil, flat_rows}
 use Rattle.text.proofs.Proper.{front}
 use Rattle.answer.specs.Answer.{AnswerPromise}
 
@@ -112,7 +113,7 @@ module _ (text : List ℕ) (long : 20487 ≤ length text) where
 
   -- a front without a first line stops before its end
   first_early : (k : ℕ) → NoFirstLine seen k → k < 20487
-  first_early k n = elim (below? k 20487) [
+  first_early k n = elim (cases_lt k 20487) [
     | inl l ↦ l
     | inr l ↦
         let all : take k seen ≡ seen = take_all k seen (omega (arith, seen_long)) in
@@ -124,7 +125,7 @@ module _ (text : List ℕ) (long : 20487 ≤ length text) where
 
   -- a front whose sides are within bounds stops before its end too: it is longer than any proper text of its sides
   body_early : (v : Sides) (k : ℕ) → Within 64 v.rows v.cols → FirstLine seen v → StopsAt Proper seen k → k < 20487
-  body_early v k w o s = elim (below? k 20487) [
+  body_early v k w o s = elim (cases_lt k 20487) [
     | inl l ↦ l
     | inr l ↦
         let all : take k seen ≡ seen = take_all k seen (omega (arith, seen_long)) in
@@ -146,7 +147,7 @@ module _ (text : List ℕ) (long : 20487 ≤ length text) where
 
 -- THE FIRST 20,487 BYTES DECIDE: the answer to them is the answer to the whole text
 pub front_decides : (text said : List ℕ) → AnswerPromise (take 20487 text) said → AnswerPromise text said
-front_decides text said p = elim (below? (length text) 20487) [
+front_decides text said p = elim (cases_lt (length text) 20487) [
   | inl l ↦ let all : take 20487 text ≡ text = take_all 20487 text (omega arith) in rw all at p
   | inr l ↦ front_says text l said p
 ]

@@ -3,9 +3,9 @@
 use mathlib.Core.List.{List, [], ◌∷◌, map}
 use mathlib.Core.Logic.{inl, inr}
 use mathlib.Core.Path.{◌≡◌, refl, ap, ◌∙◌}
-use Prim.Native.Nat.{ℕ, suc, ◌+◌, ◌*◌, ◌^◌, ◌<◌, ◌≤◌}
+use Prim.Native.Nat.{ℕ, suc, ◌+◌, ◌*◌, ◌^◌, ◌<◌}
 use native.Mathlib.Omega.{arith}
-use lib.ListN.{length, take, drop, get_or, length-map, length-append, get_or-eq_default}
+use lib.ListN.{length, take, drop, get_or, length-map, get_or-eq_default}
 use lib.Seq.{take_at}
 use Rattle.promise.specs.Links.UnlessAll.{refused_at, met_all}
 use Rattle.promise.specs.Links.Unless.{refused, met}
@@ -22,22 +22,32 @@ use Rattle.sheet.proofs.Passes.{count_is_passing}
 use Rattle.count.specs.Count.{CountPromise, CountCells, CountOutcome, ends}
 use Rattle.text.specs.Text.{lines, Sides, FirstLine, Proper, StopsAt}
 use Rattle.text.specs.Read.{Parses, kept}
-use Rattle.text.specs.declared.Text.TheVariants as P
+use Rattle.text.specs.declared.TextError.TheVariants as E
 use Rattle.text.proofs.Begin.{area}
-use Rattle.text.proofs.Decimal.{below?}
+use Rattle.std.proofs.lemmas.Bool.{cases_lt}
 use Rattle.text.proofs.Proper.{sides}
-use Rattle.show.specs.Show.{refusal, Wrote}
-use Rattle.show.proofs.Wrote.{lines_most}
+use Rattle.show.specs.Show.{refusal}
+use Rattle.show.proofs.Long.{lines_most}
+use Rattle.std.specs.Prelude.{Ok, Err}
+use Rattle.sheet.specs.declared.shape.Shape.{Shape}
+use Rattle.writer.specs.declared.Writer.{Writer}
+use Rattle.writer.specs.Parts.{Room, Writes}
 use Rattle.answer.specs.Answer.{Told}
-use Rattle.answer.specs.Parts.{shown, Lent, Tells, Writes}
+use Rattle.answer.specs.Parts.{shown, Lent, Tells, TellsText}
 use Rattle.answer.proofs.Kept.{kept_told}
 
 -- ---- counting
 
-module _ (rows cols : ℕ) (grid counts out : List ℕ) (lent : Lent rows cols grid counts out) where
+module _ (s : Shape 64) (grid counts : List ℕ) (to : Writer) (lent : Lent s grid counts to) where
+  abbrev rows : ℕ
+  rows = s.rows
+
+  abbrev cols : ℕ
+  cols = s.cols
+
   shape : SheetShape rows cols
   shape =
-      let w = lent.within in
+      let w = s.bounds in
       record { some_row = w.some_row; rows_most = omega (arith, w.rows_most); some_col = w.some_col; cols_most = omega (arith, w.cols_most) }
 
   -- 1 and 2 are passed
@@ -57,31 +67,29 @@ module _ (rows cols : ℕ) (grid counts out : List ℕ) (lent : Lent rows cols g
 
   -- no count exceeds the number of cells
   count_most : (c : List ℕ) → SheetCounts rows cols grid c → length c ≡ rows * cols → (i : ℕ) → get_or c i 0 < 10 ^ suc 3
-  count_most c eq long i = elim (below? i (rows * cols)) [
+  count_most c eq long i = elim (cases_lt i (rows * cols)) [
     | inl l ↦
         omega (
           arith,
           count_is_passing rows cols grid lent.grid_long c eq i l,
           sum_mono {n = rows * cols} {f = λ q. on (passes rows cols grid i q) 1} {g = λ q. 1} (λ q lq. on_le (passes rows cols grid i q) 1),
           sum_ones (rows * cols),
-          area {n = 4096} lent.within.rows_most lent.within.cols_most (omega arith),
+          area {n = 4096} s.bounds.rows_most s.bounds.cols_most (omega arith),
         )
     | inr l ↦ omega (arith, get_or-eq_default c 0 {n = i} (omega arith))
   ]
 
   counted_room : (e : CountOutcome) (land exits most : ℕ) → e.said ≡ reply 0 (land ∷ exits ∷ most ∷ []) → CountCells rows cols grid counts e
-      → (length e.counts ≡ rows * cols) × (200 + length (lines rows cols e.counts) ≤ length out)
-  counted_room e land exits most s (refused_at p f is) = absurd (let z : ◌≡◌ {A = ℕ} 0 1 = cc in omega arith)
-  counted_room e land exits most s (met_all a (refused_with v l is)) = absurd (let z : ◌≡◌ {A = ℕ} 0 1 = cc in omega arith)
-  counted_room e land exits most s (met_all a (met_none n d)) =
-      (d.long, omega (arith, lines_most 3 rows cols e.counts lent.within.some_col d.long (count_most e.counts d.equation d.long), lent.room))
+      → (length e.counts ≡ rows * cols) × Room (200 + length (lines rows cols e.counts)) to
+  counted_room e land exits most is (refused_at p f is') = absurd (let z : ◌≡◌ {A = ℕ} 0 1 = cc in omega arith)
+  counted_room e land exits most is (met_all a (refused_with v l is')) = absurd (let z : ◌≡◌ {A = ℕ} 0 1 = cc in omega arith)
+  counted_room e land exits most is (met_all a (met_none n d)) =
+      (d.long, omega (arith, lines_most 3 rows cols e.counts s.bounds.some_col d.long (count_most e.counts d.equation d.long), lent.room))
 
   -- where counting is done there is room for its counts
   pub done_room : (after : List ℕ) (land exits most : ℕ) → CountPromise rows cols grid counts (ends (reply 0 (land ∷ exits ∷ most ∷ [])) after)
-      → (1 ≤ cols) × (length after ≡ rows * cols) × (200 + length (lines rows cols after) ≤ length out)
-  done_room after land exits most p =
-      let r = counted_room (ends (reply 0 (land ∷ exits ∷ most ∷ [])) after) land exits most refl (cells _ p) in
-      (lent.within.some_col, r.0, r.1)
+      → (length after ≡ rows * cols) × Room (200 + length (lines rows cols after)) to
+  done_room after land exits most p = counted_room (ends (reply 0 (land ∷ exits ∷ most ∷ [])) after) land exits most refl (cells _ p)
 
 -- ---- the whole text
 
@@ -89,34 +97,25 @@ module _ (rows cols : ℕ) (grid counts out : List ℕ) (lent : Lent rows cols g
 opened : (text : List ℕ) (v : Sides) → FirstLine text v → (k : ℕ) → ((s : Sides) → FirstLine text s → ⊥) × StopsAt Proper text k → ⊥
 opened text v o k n = n.0 v o
 
--- the codes that have been read are at most 4,096, and the grid has them
-module _ (text before after : List ℕ) (rows cols : ℕ) (m : Parses text before after (P.Parsed rows cols)) where
-  pub parsed_room : rows * cols ≤ length after
-  parsed_room =
-      omega (arith, ap length m.3, length-append (map kept m.0) (drop (rows * cols) before), length-map m.0 kept, m.2.codes_long)
-
-  pub parsed_most : rows * cols ≤ 4096
-  parsed_most = area m.1.rows_most m.1.cols_most (omega arith)
-
-module _ (text before after out last : List ℕ) (n : ℕ) where
-  pub writes_malformed : (k : ℕ) → Parses text before after (P.Malformed k) → Wrote (refusal 11 (k ∷ [])) out 0 last n → Writes text out last n
-  writes_malformed k (inl s) w = (refusal 11 (k ∷ []), refused_with k s refl, w)
-  writes_malformed k (inr m) w =
+module _ (text before after : List ℕ) {x y : Writer} where
+  pub tells_malformed : (k : ℕ) → Parses text before after (Err (E.Malformed k)) → Writes (refusal 11 (k ∷ [])) x y → TellsText text x y
+  tells_malformed k (inl s) w = (refusal 11 (k ∷ []), refused_with k s refl, w)
+  tells_malformed k (inr m) w =
       (refusal 11 (k ∷ []), met_none (opened text m.0 m.2) (given m.0 m.2 (met m.1 (refused_with k m.3 refl))), w)
 
-  pub writes_shape : Parses text before after P.Shape → Wrote (refusal 1 []) out 0 last n → Writes text out last n
-  writes_shape m w = (refusal 1 [], met_none (opened text m.0 m.1) (given m.0 m.1 (refused m.2 refl)), w)
+  pub tells_shape : Parses text before after (Err E.Shape) → Writes (refusal 1 []) x y → TellsText text x y
+  tells_shape m w = (refusal 1 [], met_none (opened text m.0 m.1) (given m.0 m.1 (refused m.2 refl)), w)
 
-  module _ (rows cols : ℕ) (m : Parses text before after (P.Parsed rows cols)) where
-    pub writes_told : (grid : List ℕ) → grid ≡ take (rows * cols) after → Tells rows cols grid out last n → Writes text out last n
-    writes_told grid eg t =
+  module _ (s : Shape 64) (m : Parses text before after (Ok s)) where
+    pub tells_grid : (grid : List ℕ) → grid ≡ take (s.rows * s.cols) after → Tells s.rows s.cols grid x y → TellsText text x y
+    tells_grid grid eg t =
         let h = m.2 in
-        let first : FirstLine text (sides rows cols) = (lines rows cols m.0, h.opens) in
-        let long : length (map kept m.0) ≡ rows * cols = length-map m.0 kept ∙ h.codes_long in
-        let codes : grid ≡ map kept m.0 = eg ∙ ap (λ (s : List ℕ). take (rows * cols) s) m.3 ∙ take_at (map kept m.0) (drop (rows * cols) before) (rows * cols) long in
-        let said : Told rows cols m.0 t.0 = kept_told m.0 rows cols t.0 h.codes_long (rw codes at t.1) in (
+        let v : Sides = sides s.rows s.cols in
+        let first : FirstLine text v = (lines s.rows s.cols m.0, h.opens) in
+        let long : length (map kept m.0) ≡ s.rows * s.cols = length-map m.0 kept ∙ h.codes_long in
+        let codes : grid ≡ map kept m.0 = eg ∙ ap (λ (l : List ℕ). take (s.rows * s.cols) l) m.3 ∙ take_at (map kept m.0) (drop (s.rows * s.cols) before) (s.rows * s.cols) long in
+        let said : Told s.rows s.cols m.0 t.0 = kept_told m.0 s.rows s.cols t.0 h.codes_long (rw codes at t.1) in (
           t.0,
-          met_none (opened text (sides rows cols) first)
-              (given (sides rows cols) first (met m.1 (met_none (λ k s. s.whole (sides rows cols, m.0, h)) (given m.0 h said)))),
+          met_none (opened text v first) (given v first (met m.1 (met_none (λ k stop. stop.whole (v, m.0, h)) (given m.0 h said)))),
           t.2,
         )

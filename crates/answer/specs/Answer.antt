@@ -6,7 +6,8 @@ use Rattle.sheet.specs.Shape.{Within}
 use Rattle.sheet.specs.Sheet.{CodeOk, LoopIn, CountsOf}
 use Rattle.sheet.specs.Totals.{land_cells, outlets, greatest_count}
 use Rattle.text.specs.Text.{FirstLine, NoFirstLine, Holds, Proper, StopsAt}
-use Rattle.show.specs.Show.{refusal, done, Wrote}
+use Rattle.show.specs.Show.{refusal, done}
+use Rattle.writer.specs.Wrote.{Wrote}
 
 -- of a text that holds these codes: 3, 4, done
 abbrev pub Told : (rows cols : ℕ) (codes said : List ℕ) → Type 0

@@ -1,55 +1,49 @@
 // The whole work of the count program: the text in, the bytes to write out.
 #![tactic(auto)]
 
-ghost use Rattle.std.specs.Prelude.{◌≡◌, length, replicate};
+ghost use Rattle.std.specs.Prelude.{◌≤◌, length};
 ghost use Rattle.answer.specs.Answer.{Answers, Buffers};
-ghost use Rattle.answer.specs.Parts.{Lent, Tells, Writes};
+ghost use Rattle.answer.specs.Parts.{Lent, Tells, TellsText};
+ghost use Rattle.writer.specs.Parts.{Room};
 
-use count::{CountReply, count};
-use sheet::totals::clear;
-use text::{Text, parse};
+use count::{CountError, Totals, count};
+use sheet::shape::Shape;
+use show::{write_done, write_refusal};
+use text::{MOST, TextError, parse};
+use writer::Writer;
 
 // Counts a grid and writes how that ends.
-fn tell(rows: usize, cols: usize, grid: &[u8], counts: &mut [u32], out: &mut [u8]) -> usize
-    requires { Lent rows cols grid.now counts.old out.old }
-    ensures { Tells rows cols grid.now out.old out.new result }
+fn tell(shape: Shape<MOST>, grid: &[u8], counts: &mut [u32], to: &mut Writer)
+    requires { Lent shape grid.now counts.old to.old }
+    ensures { Tells shape.rows shape.cols grid.now to.old to.new }
 {
-    match count(rows, cols, grid, counts) {
-        CountReply::Done {
-            land,
-            outlets,
-            greatest,
-        } => show::write_done(out, rows, cols, counts, land, outlets, greatest),
-        CountReply::Shape => show::write_refusal(out, 1),
-        CountReply::Length => show::write_refusal(out, 2),
-        CountReply::Code(p) => show::write_refusal_at(out, 3, p),
-        CountReply::Loop { place, length } => show::write_refusal_loop(out, 4, place, length),
+    match count(shape.rows, shape.cols, grid, counts) {
+        Ok(
+            Totals {
+                land,
+                outlets,
+                greatest,
+            },
+        ) => write_done(to, shape, counts, land, outlets, greatest),
+        Err(CountError::Shape | CountError::Length) => unreachable!(),
+        Err(CountError::Code(place)) => write_refusal(to, 3, &[place]),
+        Err(CountError::Loop { place, length }) => write_refusal(to, 4, &[place, length]),
     }
 }
 
 // Reads the text, counts its codes, and writes the answer.
-fn write_answer(text: &[u8], grid: &mut [u8], counts: &mut [u32], out: &mut [u8]) -> usize
-    requires { Buffers grid.old counts.old out.old }
-    ensures { Writes text.now out.old out.new result }
+fn write_answer(text: &[u8], grid: &mut [u8], counts: &mut [u32], to: &mut Writer)
+    requires lengths { (4096 ≤ length grid.old) × (4096 ≤ length counts.old) }
+    requires room { Room 20680 to.old }
+    ensures { TellsText text.now to.old to.new }
 {
     match parse(text, grid) {
-        Text::Malformed(k) => show::write_refusal_at(out, 11, k),
-        Text::Shape => show::write_refusal(out, 1),
-        Text::Parsed { rows, cols } => {
-            let n = rows * cols;
-            tell(rows, cols, &grid[..n], &mut counts[..n], out)
+        Ok(shape) => {
+            let n = shape.rows * shape.cols;
+            tell(shape, &grid[..n], &mut counts[..n], to)
         }
-    }
-}
-
-// Clears a grid.
-fn clear_grid(grid: &mut [u8])
-    ensures { grid.new ≡ replicate (length grid.old) 0 }
-{
-    let mut i = 0;
-    while i < grid.len() {
-        grid[i] = 0;
-        i += 1;
+        Err(TextError::Malformed(at)) => write_refusal(to, 11, &[at]),
+        Err(TextError::Shape) => write_refusal(to, 1, &[]),
     }
 }
 
@@ -58,8 +52,9 @@ pub fn answer(text: &[u8], grid: &mut [u8], counts: &mut [u32], out: &mut [u8]) 
     requires { Buffers grid.old counts.old out.old }
     ensures { Answers text.now grid.old counts.old out.old grid.new counts.new out.new result }
 {
-    let n = write_answer(text, grid, counts, out);
-    clear_grid(grid);
-    clear(counts);
-    n
+    let mut to = Writer::new(out);
+    write_answer(text, grid, counts, &mut to);
+    grid.fill(0);
+    counts.fill(0);
+    to.at
 }

@@ -1,3 +1,5 @@
-pub mod Wrote
+pub mod Shown
+pub mod Long
+pub mod Items
 pub mod Lines
 pub mod Cases

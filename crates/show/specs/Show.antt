@@ -1,6 +1,6 @@
 -- What the count program writes (paper 01, "The count program"): lines of words and numbers, as bytes.
 -- Assumes nothing.
-use Rattle.std.specs.Prelude.{List, [], ◌∷◌, ◌++◌, ◌≡◌, ℕ, ◌+◌, ◌≤◌, length, take, drop}
+use Rattle.std.specs.Prelude.{List, [], ◌∷◌, ◌++◌, ℕ}
 use Prim.Native.Char.{code}
 use Prim.Native.String.{String}
 use Prim.Native.String as S
@@ -35,11 +35,3 @@ totals_line land outlets greatest = item "land " land ++ (item " outlets " outle
 
 abbrev pub done : (rows cols : ℕ) (counts : List ℕ) (land outlets greatest : ℕ) → List ℕ
 done rows cols counts land outlets greatest = shape_line rows cols ++ lines rows cols counts ++ totals_line land outlets greatest
-
--- ---- writing
-
--- `bytes` have been written into `out` from `at`, and nothing else has changed; the next place is `next`
-pub record Wrote (bytes out : List ℕ) (at : ℕ) (after : List ℕ) (next : ℕ) : Type 0 where
-  pub room : at + length bytes ≤ length out
-  pub next_is : next ≡ at + length bytes
-  pub out_is : after ≡ take at out ++ (bytes ++ drop next out)

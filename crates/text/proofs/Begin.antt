@@ -5,16 +5,9 @@ use mathlib.Core.Path.{◌≡◌, refl, sym, ap, ◌∙◌}
 use mathlib.Core.List.{List, [], ◌∷◌, ◌++◌, append_assoc, append_cancel_left}
 use native.Mathlib.Nat.{mul-le-mul}
 use native.Mathlib.Omega.{arith}
-use mathlib.Core.Bool.{true, false, false≢true}
-use mathlib.Core.Logic.{inl, inr}
-use lib.Seq.{take_all}
-use lib.ListN.{length, take, drop, length-append, length-drop}
+use lib.ListN.{length, drop, length-append, length-drop}
 use Rattle.text.specs.Text.{decimal, line, lines, Short, Opens, StopsAt, Digit}
-use Rattle.text.specs.Read.{Stuck, fits, Opening, ProperOf, Rows}
-use Rattle.flow.proofs.Sum.{test}
-use Rattle.sheet.specs.Leaves.{within}
-use Rattle.sheet.specs.Shape.{Within}
-use Rattle.sheet.proofs.Places.{made, outside}
+use Rattle.text.specs.Read.{Stuck, Opening, ProperOf, Rows}
 use Rattle.text.proofs.Scan.{number_same}
 use Rattle.text.proofs.Stops.{stuck_stops, stops_after}
 
@@ -86,23 +79,3 @@ after_first text rows cols next j o inside h =
 -- a grid of at most 64 by 64 cells
 pub area : {rows cols n : ℕ} → rows ≤ 64 → cols ≤ 64 → 4096 ≤ n → rows * cols ≤ n
 area {rows} {cols} {n} h k l = omega (arith, mul-le-mul {n₂ = 64} {m₂ = 64} h k)
-
--- the rest of a text, to its end
-pub part_end : (text : List ℕ) (next : ℕ) → take (length text - next) (drop next text) ≡ drop next text
-part_end text next = take_all (length text - next) (drop next text) (omega (arith, length-drop next text))
-
--- ---- the test of the sides
-
-pub fits_in : (rows cols : ℕ) → fits rows cols ≡ true → Within 64 rows cols
-unfolding fits
-fits_in rows cols e = elim (test (within rows 64)) [
-  | inl a ↦ (made 64 rows cols a (rw a at e)).0
-  | inr a ↦ absurd (false≢true (rw a at e))
-]
-
-pub fits_out : (rows cols : ℕ) → fits rows cols ≡ false → Within 64 rows cols → ⊥
-unfolding fits
-fits_out rows cols e w = elim (test (within rows 64)) [
-  | inl a ↦ outside cols 64 w.some_col w.cols_most (rw a at e)
-  | inr a ↦ outside rows 64 w.some_row w.rows_most a
-]

@@ -2,17 +2,60 @@
 -- Assumes nothing.
 use Prim.Native.Nat.{ℕ, zero, suc, ◌+◌, ◌*◌, ◌-◌, ◌<◌, ◌≤◌}
 use mathlib.Core.Path.{◌≡◌, refl, sym, ap, ap₂, ◌∙◌}
-use mathlib.Core.List.{List, [], ◌∷◌, ◌++◌, map, append_assoc, append-nil}
+use mathlib.Core.List.{List, [], ◌∷◌, ◌++◌, map, map-append, append_assoc, append-nil}
 use native.Mathlib.Omega.{arith}
 use native.Mathlib.Numerals.{add-one}
 use native.Mathlib.Nat.{suc-mul}
-use lib.ListN.{length, get_or, take, drop, set, length-append, length-drop, length-map, drop_of_length-le}
+use lib.ListN.{length, replicate, length-replicate, get_or, take, drop, set, length-append, length-drop, length-map, drop_of_length-le}
 use lib.Seq.{drop-cons, set_at}
+use mathlib.Core.Bool.{cond}
+use mathlib.Core.Logic.{inl, inr}
+use lib.Dec.{leb}
+use Rattle.std.proofs.lemmas.Bool.Decides.{nat_tests}
+use Rattle.std.proofs.lemmas.Bool.{cases_lt}
 use Rattle.text.specs.Text.{decimal, line, lines, Each, Short, StopsAt, Digit}
-use Rattle.text.specs.Read.{Stuck, Rows, end_of, turn, kept}
+use Rattle.text.specs.Read.{Stuck, Rows, end_of, kept}
 use Rattle.text.proofs.Decimal.{decimal_some, each_append}
 use Rattle.text.proofs.Scan.{number_same, next_byte}
 use Rattle.text.proofs.Stops.{stops_byte, stuck_stops, stops_same}
+
+-- how many numbers the next one has to its right, in lines of c + 1
+unfoldable pub turn : (c right : ℕ) → ℕ
+turn c zero = c
+turn c (suc right) = right
+
+-- how many numbers number `col` of a line of c + 1 has to its right; behind the last, the first of the next line
+unfoldable pub rights : (c col : ℕ) → ℕ
+rights c col = cond (leb col c) (c - col) c
+
+pub rights_first : (c : ℕ) → rights c 0 ≡ c
+unfolding rights
+rights_first c = grind (arith, nat_tests)
+
+pub rights_in : (c col : ℕ) → col ≤ c → rights c col ≡ c - col
+unfolding rights
+rights_in c col h = grind (arith, nat_tests)
+
+pub rights_end : (c : ℕ) → rights c (c + 1) ≡ c
+unfolding rights
+rights_end c = grind (arith, nat_tests)
+
+turn_inner : (c right : ℕ) → 1 ≤ right → turn c right ≡ right - 1
+unfolding turn
+turn_inner c zero h = absurd (omega arith)
+turn_inner c (suc right) h = omega arith
+
+turn_last : (c : ℕ) → turn c 0 ≡ c
+unfolding turn
+turn_last c = refl
+
+pub rights_next : (c col : ℕ) → col ≤ c → turn c (rights c col) ≡ rights c (col + 1)
+rights_next c col h = elim (cases_lt col c) [
+  | inl l ↦ rw (rights_in c col h, rights_in c (col + 1) (omega arith), turn_inner c (c - col) (omega arith)) (omega arith)
+  | inr l ↦
+      let last : col ≡ c = omega arith in
+      rw (last, rights_in c c (omega arith), rights_end c) (let none : c - c ≡ 0 = omega arith in rw none (turn_last c))
+]
 
 -- numbers in lines of c + 1, from the one with `right` numbers to its right
 pub flat : (c right : ℕ) → List ℕ → List ℕ
@@ -23,24 +66,6 @@ pub end_apart : (right : ℕ) → Digit (end_of right) → ⊥
 unfolding end_of
 end_apart zero d = omega arith
 end_apart (suc right) d = omega arith
-
-pub end_last : (right : ℕ) → right ≡ 0 → 10 ≡ end_of right
-unfolding end_of
-end_last right e = rw e
-
-pub end_inner : (right : ℕ) → (right ≡ 0 → ⊥) → 32 ≡ end_of right
-unfolding end_of
-end_inner zero e = absurd (e refl)
-end_inner (suc right) e = refl
-
-pub turn_last : (c right : ℕ) → right ≡ 0 → c ≡ turn c right
-unfolding turn
-turn_last c right e = rw e
-
-pub turn_inner : (c right : ℕ) → (right ≡ 0 → ⊥) → right - 1 ≡ turn c right
-unfolding turn
-turn_inner c zero e = absurd (e refl)
-turn_inner c (suc right) e = omega arith
 
 flat_line : (c r : ℕ) (xs : List ℕ) → r < length xs → flat c r xs ≡ line (take (suc r) xs) ++ flat c c (drop (suc r) xs)
 unfolding flat line end_of turn
@@ -99,10 +124,6 @@ peel c right v s (w ∷ ws) all e =
     let same = number_same (end_of right) v w s (flat c (turn c right) ws) (end_apart right) (e ∙ flat_cons c right w ws) in
     (ws, all.1, ap (λ (x : ℕ). x ∷ ws) (sym same.0), same.1)
 
-map_snoc : (us : List ℕ) (v : ℕ) → map kept (us ++ v ∷ []) ≡ map kept us ++ (kept v ∷ [])
-map_snoc [] v = refl
-map_snoc (u ∷ us) v = ap (λ (s : List ℕ). kept u ∷ s) (map_snoc us v)
-
 pub reached_more : {c : ℕ} {bytes before grid : List ℕ} {right at q : ℕ} (v next : ℕ) → Reached c bytes before grid right at q → q < length before → Short v → next ≤ length bytes
     → drop at bytes ≡ decimal v ++ end_of right ∷ drop next bytes → Reached c bytes before (set grid q (kept v)) (turn c right) next (q + 1)
 reached_more {c} {bytes} {before} {grid} {right} {at} {q} v next r room short inside e = record {
@@ -121,23 +142,13 @@ reached_more {c} {bytes} {before} {grid} {right} {at} {q} v next r room short in
   stored =
       let next : drop q before ≡ get_or before q 0 ∷ drop (q + 1) before = rw (add-one, drop-cons before q 0) in
       let placed : length (map kept r.us) ≡ q = length-map r.us kept ∙ r.long in
-      rw (r.stored, next, set_at (map kept r.us) (get_or before q 0) (drop (q + 1) before) (kept v) q placed, map_snoc) (sym (append_assoc (map kept r.us) (kept v ∷ []) (drop (q + 1) before)));
+      rw (r.stored, next, set_at (map kept r.us) (get_or before q 0) (drop (q + 1) before) (kept v) q placed, map-append kept) (sym (append_assoc (map kept r.us) (kept v ∷ []) (drop (q + 1) before)));
 }
 
-pub reached_long : {c : ℕ} {bytes before grid : List ℕ} {right at q : ℕ} → Reached c bytes before grid right at q → q ≤ length before → length grid ≡ length before
-reached_long {c} {bytes} {before} {grid} {right} {at} {q} r l = omega (arith, simp (length-append, length-drop, length-map) at (ap length r.stored), r.long)
+pub reached_at : {c : ℕ} {bytes before grid : List ℕ} {right right' at q q' : ℕ} → right ≡ right' → q ≡ q' → Reached c bytes before grid right at q → Reached c bytes before grid right' at q'
+reached_at e f r = rw (← e, ← f) r
 
-pub zeros : ℕ → List ℕ
-zeros zero = []
-zeros (suc n) = 0 ∷ zeros n
-
-pub zeros_long : (n : ℕ) → length (zeros n) ≡ n
-unfolding zeros
-zeros_long zero = refl
-zeros_long (suc n) = ap suc (zeros_long n)
-
-pub zeros_short : (n : ℕ) → Each Short (zeros n)
-unfolding zeros
+pub zeros_short : (n : ℕ) → Each Short (replicate n 0)
 zeros_short zero = tt
 zeros_short (suc n) = (omega arith, zeros_short n)
 
@@ -152,12 +163,12 @@ module _ {c : ℕ} {bytes before grid : List ℕ} {right at q : ℕ} (m : ℕ) (
   -- a number can be read next, and m numbers can be reached
   to_number : (more : ℕ) → q + suc more ≡ m → (v : ℕ) → Short v → (t : List ℕ) × Numbers c m (r.d ++ (decimal v ++ t))
   to_number more e v short = (
-    end_of right ∷ flat c (turn c right) (zeros more),
+    end_of right ∷ flat c (turn c right) (replicate more 0),
     (
-      r.us ++ v ∷ zeros more,
-      each_append Short r.us (v ∷ zeros more) r.short (short, zeros_short more),
-      omega (arith, length-append r.us (v ∷ zeros more), zeros_long more, r.long),
-      sym (r.to (v ∷ zeros more) ∙ ap (λ (s : List ℕ). r.d ++ s) (flat_cons c right v (zeros more))),
+      r.us ++ v ∷ replicate more 0,
+      each_append Short r.us (v ∷ replicate more 0) r.short (short, zeros_short more),
+      omega (arith, length-append r.us (v ∷ replicate more 0), length-replicate {A = ℕ} more 0, r.long),
+      sym (r.to (v ∷ replicate more 0) ∙ ap (λ (s : List ℕ). r.d ++ s) (flat_cons c right v (replicate more 0))),
     ),
   )
 

@@ -3,18 +3,20 @@
 -- Assumes nothing.
 use Prim.Native.Nat.{ℕ, ◌+◌, ◌*◌, ◌≤◌}
 use mathlib.Core.Path.{◌≡◌, sym, ap, ◌∙◌, subst₂}
-use mathlib.Core.List.{List, [], ◌∷◌, ◌++◌, map, append_assoc}
+use mathlib.Core.List.{List, [], ◌∷◌, ◌++◌, append_assoc}
 use mathlib.Core.Logic.{inl, inr}
 use native.Mathlib.Omega.{arith}
-use lib.ListN.{length, take, drop, take-append-drop}
+use lib.ListN.{length, replicate, length-replicate, take, drop, take-append-drop}
 use lib.Seq.{take-append-le, take-append_seam}
+use Rattle.std.specs.Prelude.{Err}
 use Rattle.sheet.specs.Shape.{Within}
-use Rattle.text.specs.Text.{line, lines, Short, Opens, Sides, Proper, GoesOn, StopsAt}
-use Rattle.text.specs.Read.{kept, Opening, ProperOf, Rows, ReadsFirst, Parses}
-use Rattle.text.specs.declared.First.TheVariants as F
-use Rattle.text.specs.declared.Text.TheVariants as P
-use Rattle.text.proofs.Flat.{zeros, zeros_long, zeros_short}
-use Rattle.text.proofs.Decimal.{below?}
+use Rattle.sheet.specs.declared.shape.Shape.{Shape}
+use Rattle.text.specs.Text.{line, lines, Short, Opens, Sides, FirstLine, Proper, GoesOn, StopsAt}
+use Rattle.text.specs.Read.{Opening, ProperOf, ReadsFirst, ReadsBody, Parses}
+use Rattle.text.specs.declared.Malformed.{Malformed}
+use Rattle.text.specs.declared.TextError.TheVariants as E
+use Rattle.text.proofs.Flat.{zeros_short}
+use Rattle.std.proofs.lemmas.Bool.{cases_lt}
 use Rattle.text.proofs.Begin.{opens_one, after_first}
 
 abbrev pub sides : (rows cols : ℕ) → Sides
@@ -31,7 +33,7 @@ line_goes_on : (rows cols : ℕ) (p more rest : List ℕ) → Short rows → Sho
     → length p ≤ length (line (rows ∷ cols ∷ [])) → GoesOn (ProperOf rows cols) p
 line_goes_on rows cols p more rest hr hc e l =
     let d : List ℕ = line (rows ∷ cols ∷ []) in
-    let codes : List ℕ = zeros (rows * cols) in
+    let codes : List ℕ = replicate (rows * cols) 0 in
     let whole : p ++ drop (length p) d ≡ d = front d rest p more (sym e) l in
     let all : p ++ (drop (length p) d ++ lines rows cols codes) ≡ d ++ lines rows cols codes = sym (append_assoc p (drop (length p) d) (lines rows cols codes)) ∙ ap (λ (s : List ℕ). s ++ lines rows cols codes) whole in (
       drop (length p) d ++ lines rows cols codes,
@@ -40,7 +42,7 @@ line_goes_on rows cols p more rest hr hc e l =
         record {
           opens = record { rows_short = hr; cols_short = hc; reads = all };
           codes_short = zeros_short (rows * cols);
-          codes_long = zeros_long (rows * cols);
+          codes_long = length-replicate (rows * cols) 0;
         },
       ),
     )
@@ -53,7 +55,7 @@ pub first_stops : (text : List ℕ) (k : ℕ) → StopsAt Opening text k → Sto
 first_stops text k h =
     let g = h.before.1 in
     let d : List ℕ = line (g.0 ∷ g.1 ∷ []) in
-    let short : length (take k text) ≤ length d = elim (below? (length d) (length (take k text))) [
+    let short : length (take k text) ≤ length d = elim (cases_lt (length d) (length (take k text))) [
       | inl l ↦
           let p = front (take k text) h.before.0 d g.2 g.3.reads (omega arith) in
           absurd (h.whole (
@@ -95,7 +97,7 @@ pub body_stops : (rows cols : ℕ) (rest text : List ℕ) (k : ℕ) → Opens ro
 body_stops rows cols rest text k o h = record {
   inside = h.inside;
   before = (h.before.0, (sides rows cols, h.before.1.0, h.before.1.1));
-  here = λ l m. h.here l (elim (below? (length (take (k + 1) text)) (length (line (rows ∷ cols ∷ [])))) [
+  here = λ l m. h.here l (elim (cases_lt (length (take (k + 1) text)) (length (line (rows ∷ cols ∷ [])))) [
     | inl s ↦ line_goes_on rows cols (take (k + 1) text) (drop (k + 1) text) rest o.rows_short o.cols_short (take-append-drop (k + 1) text ∙ o.reads) (omega arith)
     | inr s ↦ (m.0, same_sides rows cols rest text m.0 (k + 1) o s m.1)
   ]);
@@ -107,20 +109,17 @@ body_stops rows cols rest text k o h = record {
 -- ---- reading a whole text
 
 module _ (text before after : List ℕ) where
-  pub parse_bad : (k : ℕ) → ReadsFirst text (F.Bad k) → Parses text before after (P.Malformed k)
-  parse_bad k s = inl (λ v o. s.whole (v.rows, v.cols, o.0, o.1), first_stops text k s)
+  pub parse_bad : (stop : Malformed) → ReadsFirst text (Err stop) → Parses text before after (Err (E.Malformed stop.at))
+  parse_bad stop s = inl (λ v o. s.whole (v.rows, v.cols, o.0, o.1), first_stops text stop.at s)
 
-  module _ (rows cols next : ℕ) (first : ReadsFirst text (F.Line rows cols next)) where
-    pub parse_shape : (Within 64 rows cols → ⊥) → Parses text before after P.Shape
-    parse_shape out = (sides rows cols, (drop next text, first.1), out)
+  module _ (rows cols next : ℕ) (read : (next ≤ length text) × Opens rows cols (drop next text) text) where
+    opened : FirstLine text (sides rows cols)
+    opened = (drop next text, read.1)
 
-    pub parse_broken : (rest : List ℕ) (k : ℕ) → Within 64 rows cols → rest ≡ drop next text
-        → StopsAt (λ s. (codes : List ℕ) × Rows rows cols codes s) rest k → Parses text before after (P.Malformed (next + k))
-    parse_broken rest k w e s =
-        inr (sides rows cols, w, (drop next text, first.1), body_stops rows cols (drop next text) text (next + k) first.1 (after_first text rows cols next k first.1 first.0 (rw e at s)))
+    pub parse_shape : (Within 64 rows cols → ⊥) → Parses text before after (Err E.Shape)
+    parse_shape out = (sides rows cols, opened, out)
 
-    pub parse_whole : (rest : List ℕ) → Within 64 rows cols → rest ≡ drop next text
-        → (codes : List ℕ) × Rows rows cols codes rest × (after ≡ map kept codes ++ drop (rows * cols) before) → Parses text before after (P.Parsed rows cols)
-    parse_whole rest w e h =
-        let opens : Opens rows cols (lines rows cols h.0) text = rw (sym e ∙ h.1.reads) at first.1 in
-        (h.0, w, record { opens = opens; codes_short = h.1.codes_short; codes_long = h.1.codes_long }, h.2)
+  module _ (shape : Shape 64) (next : ℕ) (read : (next ≤ length text) × Opens shape.rows shape.cols (drop next text) text) where
+    pub parse_broken : (stop : Malformed) → ReadsBody shape.rows shape.cols (drop next text) before after (Err stop) → Parses text before after (Err (E.Malformed (next + stop.at)))
+    parse_broken stop s =
+        inr (sides shape.rows shape.cols, shape.bounds, opened shape.rows shape.cols next read, body_stops _ _ (drop next text) text (next + stop.at) read.1 (after_first text _ _ next stop.at read.1 read.0 s))

@@ -4,35 +4,17 @@ use Rattle.answer.specs.Parts.{shown}
 use Rattle.answer.proofs.Promise.{told, done_room}
 use Rattle.answer.proofs.tell.Goals as goal
 
-pub write_done-requires : goal.write_done-requires
-write_done-requires c = done_room _ _ _ _ _ c.requires _ _ _ _ (rw c.in-Done.is at c.count.ensures)
+pub write_done-requires-clause-room : goal.write_done-requires-clause-room
+write_done-requires-clause-room c = (done_room c.args.shape _ _ _ c.requires _ _ _ _ c.in-Ok.ensures).1
 
-pub returns-in-Done : goal.returns-in-Done
+pub returns-in-Ok : goal.returns-in-Ok
 unfolding shown
-returns-in-Done c =
-    let is = c.in-Done.is in
-    (_, told _ _ _ _ _ c.requires _ (rw is at c.count.ensures), c.write_done.ensures)
+returns-in-Ok c = (_, told c.args.shape _ _ _ c.requires _ c.in-Ok.ensures, c.write_done.ensures)
 
-pub returns-in-Shape : goal.returns-in-Shape
+pub returns-in-Err-Code : goal.returns-in-Err-Code
 unfolding shown
-returns-in-Shape c =
-    let is = c.in-Shape.is in
-    (_, told _ _ _ _ _ c.requires _ (rw is at c.count.ensures), c.write_refusal.ensures)
+returns-in-Err-Code c = (_, told c.args.shape _ _ _ c.requires _ (rw c.in-Err-Code.field-0-is at c.in-Err-Code.ensures), rw c.in-Err-Code.place-is at c.write_refusal.ensures)
 
-pub returns-in-Length : goal.returns-in-Length
+pub returns-in-Err-Loop : goal.returns-in-Err-Loop
 unfolding shown
-returns-in-Length c =
-    let is = c.in-Length.is in
-    (_, told _ _ _ _ _ c.requires _ (rw is at c.count.ensures), c.write_refusal-in-Length.ensures)
-
-pub returns-in-Code : goal.returns-in-Code
-unfolding shown
-returns-in-Code c =
-    let is = c.in-Code.is in
-    (_, told _ _ _ _ _ c.requires _ (rw is at c.count.ensures), c.write_refusal_at.ensures)
-
-pub returns-in-Loop : goal.returns-in-Loop
-unfolding shown
-returns-in-Loop c =
-    let is = c.in-Loop.is in
-    (_, told _ _ _ _ _ c.requires _ (rw is at c.count.ensures), c.write_refusal_loop.ensures)
+returns-in-Err-Loop c = (_, told c.args.shape _ _ _ c.requires _ (rw c.in-Err-Loop.field-0-is at c.in-Err-Loop.ensures), rw (c.in-Err-Loop.place-is, c.in-Err-Loop.length-is) at c.write_refusal-in-Err-Loop.ensures)

@@ -1,37 +1,42 @@
 -- `show::write_done` meets its contract: three parts written one after the other.
 -- Assumes nothing.
 use native.Mathlib.Omega.{arith}
-use Rattle.show.proofs.Lines.{shape_long}
-use Rattle.show.proofs.Wrote.{wrote_then, wrote_long}
+use lib.ListN.{length-append}
+use Rattle.writer.proofs.Wrote.{writes_is, writes_then, writes_long}
+use Rattle.show.specs.Show.{word}
+use Rattle.show.proofs.Long.{decimal_20}
+use Rattle.show.proofs.Lines.{shape_is, shape_long, totals_is}
 use Rattle.show.proofs.write_done.Goals as goal
 
-pub write_grid-b-requires : goal.write_grid-b-requires
-write_grid-b-requires c = (
-  c.requires.0,
-  c.requires.1,
-  omega (
-    arith,
-    c.write_shape-a.ensures.next_is,
-    wrote_long c.write_shape-a.ensures,
-    shape_long c.args.rows c.args.cols c.ranges.rows.fits c.ranges.cols.fits,
-    c.requires.2,
-  ),
-)
+pub write_line-requires : goal.write_line-requires
+write_line-requires c =
+    simp length-append (omega (arith, decimal_20 c.args.shape.rows (omega (arith, c.args.shape.bounds.rows_most)), decimal_20 c.args.shape.cols (omega (arith, c.args.shape.bounds.cols_most))))
 
-pub write_totals-requires : goal.write_totals-requires
-write_totals-requires c =
-    omega (
+pub write_grid-requires-clause-room : goal.write_grid-requires-clause-room
+unfolding word
+write_grid-requires-clause-room c =
+    let w = writes_is (shape_is c.args.shape.rows c.args.shape.cols) c.write_line.ensures in
+    omega (arith, w.wrote.next_is, writes_long w, shape_long c.args.shape.rows c.args.shape.cols (omega (arith, c.args.shape.bounds.rows_most)) (omega (arith, c.args.shape.bounds.cols_most)))
+
+pub write_line-requires-2 : goal.write_line-requires-2
+unfolding word
+write_line-requires-2 c =
+    let w = writes_is (shape_is c.args.shape.rows c.args.shape.cols) c.write_line.ensures in
+    let g = c.write_grid.ensures in
+    simp length-append (omega (
       arith,
-      c.write_shape-a.ensures.next_is,
-      wrote_long c.write_shape-a.ensures,
-      c.write_grid-b.ensures.next_is,
-      wrote_long c.write_grid-b.ensures,
-      shape_long c.args.rows c.args.cols c.ranges.rows.fits c.ranges.cols.fits,
-      c.requires.2,
-    )
-
-pub shape_of-out : goal.shape_of-out
-shape_of-out c = wrote_long (wrote_then (wrote_then c.write_shape-a.ensures c.write_grid-b.ensures) c.write_totals.ensures)
+      w.wrote.next_is,
+      writes_long w,
+      g.wrote.next_is,
+      writes_long g,
+      shape_long c.args.shape.rows c.args.shape.cols (omega (arith, c.args.shape.bounds.rows_most)) (omega (arith, c.args.shape.bounds.cols_most)),
+      decimal_20 c.args.land c.ranges.land.fits,
+      decimal_20 c.args.outlets c.ranges.outlets.fits,
+      decimal_20 c.args.greatest (omega arith),
+    ))
 
 pub returns : goal.returns
-returns c = wrote_then (wrote_then c.write_shape-a.ensures c.write_grid-b.ensures) (rw c.wide.ensures at c.write_totals.ensures)
+unfolding word
+returns c =
+    writes_then (writes_then (writes_is (shape_is c.args.shape.rows c.args.shape.cols) c.write_line.ensures) c.write_grid.ensures)
+    (writes_is (totals_is c.args.land c.args.outlets c.args.greatest) c.write_line-2.ensures)

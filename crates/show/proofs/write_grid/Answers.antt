@@ -1,28 +1,41 @@
 -- `show::write_grid` meets its contract: the numbers shown so far, each with the byte after it.
 -- Assumes nothing.
+use mathlib.Core.Path.{◌≡◌, sym, ap, ◌∙◌}
+use Prim.Native.Nat.{◌+◌, ◌-◌}
 use native.Mathlib.Omega.{arith}
-use Rattle.text.proofs.Flat.{flat_rows}
-use Rattle.show.proofs.Wrote.{shown_none, shown_room, shown_next, shown_all, wrote_long, wrote_is, grid_room}
+use Rattle.std.proofs.lemmas.Nat.{mul-add-lt}
+use Rattle.text.specs.Read.{end_of}
+use Rattle.text.proofs.Flat.{rights, rights_first, rights_in, rights_end, rights_next, flat_rows}
+use Rattle.writer.proofs.Wrote.{writes_long, writes_is}
+use Rattle.show.proofs.Shown.{shown_at, shown_room, shown_next, shown_all, grid_room}
 use Rattle.show.proofs.write_grid.Goals as goal
 
-pub loop-q-init : goal.loop-q-init
-loop-q-init c = (omega arith, shown_none _ _ _ _ (omega arith))
+pub loop-col-init : goal.loop-col-init
+loop-col-init c = shown_at (sym (rights_first _)) (omega arith) c.loop-row.invariant
 
-pub write_number-end-requires : goal.write_number-end-requires
-write_number-end-requires c =
-    rw c.wide.ensures (omega (arith, shown_room c.loop-q.invariant.1 c.loop-q-test.true (grid_room _ _ _ _ _ c.requires.0 c.requires.1 c.requires.2)))
+pub write_number-requires : goal.write_number-requires
+write_number-requires c =
+    let inside = mul-add-lt c.loop-row.row c.args.shape.cols c.loop-col.col c.args.shape.rows (omega arith) (omega arith) in
+    let room = shown_room c.loop-col.invariant (omega arith) (grid_room _ _ _ c.args.to.now c.args.shape.bounds.some_col c.requires.grid c.requires.room) in
+    omega arith
 
-pub put-next-requires : goal.put-next-requires
-put-next-requires c =
-    let w = rw c.wide.ensures at c.write_number-end.ensures in
-    omega (arith, shown_room c.loop-q.invariant.1 c.loop-q-test.true (grid_room _ _ _ _ _ c.requires.0 c.requires.1 c.requires.2), wrote_long w, w.next_is)
+pub byte-requires : goal.byte-requires
+byte-requires c =
+    let inside = mul-add-lt c.loop-row.row c.args.shape.cols c.loop-col.col c.args.shape.rows (omega arith) (omega arith) in
+    let room = shown_room c.loop-col.invariant (omega arith) (grid_room _ _ _ c.args.to.now c.args.shape.bounds.some_col c.requires.grid c.requires.room) in
+    let w = c.write_number.ensures in
+    omega (arith, writes_long w, w.wrote.next_is)
 
-pub loop-q-preserved : goal.loop-q-preserved
-loop-q-preserved c =
-    (omega arith, rw c.turned-right.ensures (shown_next c.loop-q.invariant.1 c.loop-q-test.true _ _ _ _ _ _ c.wide.ensures c.end_of.ensures c.write_number-end.ensures c.put-next.ensures))
+pub loop-col-preserved : goal.loop-col-preserved
+loop-col-preserved c =
+    let inside = mul-add-lt c.loop-row.row c.args.shape.cols c.loop-col.col c.args.shape.rows (omega arith) (omega arith) in
+    let end = c.end_of.ensures ∙ ap end_of (sym (rights_in (c.args.shape.cols - 1) c.loop-col.col (omega arith))) in
+    shown_at (rights_next _ _ (omega arith)) (omega arith) (shown_next c.loop-col.invariant (omega arith) c.write_number.ensures (rw end at c.byte.ensures))
 
-pub shape_of-out : goal.shape_of-out
-shape_of-out c = wrote_long c.loop-q.invariant.1.wrote
+pub loop-row-preserved : goal.loop-row-preserved
+loop-row-preserved c =
+    let last : c.loop-col.col ≡ c.args.shape.cols - 1 + 1 = omega arith in
+    shown_at (ap (rights (c.args.shape.cols - 1)) last ∙ rights_end _) (omega arith) c.loop-col.invariant
 
 pub returns : goal.returns
-returns c = wrote_is (flat_rows _ _ _ c.requires.0 c.requires.1) (shown_all c.loop-q.invariant.1 c.loop-q-test.false)
+returns c = writes_is (flat_rows _ _ _ c.args.shape.bounds.some_col c.requires.grid) (shown_all c.loop-row.invariant (grind arith))

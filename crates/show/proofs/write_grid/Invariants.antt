@@ -1,11 +1,11 @@
--- The loops of `show::write_grid`: what they keep, and what falls.
-use Prim.Native.Nat.{◌-◌, ◌≤◌}
-use lib.ListN.{length}
-use Rattle.show.proofs.Wrote.{Shown}
+-- The loops of `show::write_grid`: the numbers shown so far, each with the byte after it.
+use Prim.Native.Nat.{◌+◌, ◌*◌, ◌-◌}
+use Rattle.text.proofs.Flat.{rights}
+use Rattle.show.proofs.Shown.{Shown}
 use Rattle.show.proofs.write_grid.Given as goal
 
-abbrev pub invariant-loop-q : goal.invariant-loop-q
-invariant-loop-q l = (l.q ≤ length l.numbers) × Shown (l.cols - 1) l.numbers l.initial.out l.at l.out l.right l.next l.q
+abbrev pub invariant-loop-row : goal.invariant-loop-row
+invariant-loop-row l = Shown (l.shape.cols - 1) l.numbers l.fn.to l.to (l.shape.cols - 1) (l.row * l.shape.cols)
 
-abbrev pub decreases-loop-q : goal.decreases-loop-q
-decreases-loop-q l = length l.numbers - l.q
+abbrev pub invariant-loop-col : goal.invariant-loop-col
+invariant-loop-col l = Shown (l.shape.cols - 1) l.numbers l.fn.to l.to (rights (l.shape.cols - 1) l.col) (l.row * l.shape.cols + l.col)
