@@ -15,8 +15,16 @@ pub struct Grid<'a> {
 
 impl<'a> Grid<'a> {
     ghost use Rattle.std.specs.Prelude.{◌<◌};
-    ghost use Rattle.sheet.specs.Grid.{OnGrid, LeadsTo, dest_in, place_in, cells_in};
+    ghost use Rattle.sheet.specs.Grid.{OnGrid, LeadsTo, land_in, dest_in, place_in, cells_in};
     ghost use Rattle.sheet.specs.Leaves.{SpotOf};
+
+    // Whether place p is land.
+    pub fn is_land(&self, p: usize) -> bool
+        requires { p < cells_in self.now }
+        ensures { result ≡ land_in self.now p }
+    {
+        is_arrow(self.codes[p])
+    }
 
     // The row and the column of the land cell that an arrow steps onto, where it steps onto one. Nothing is divided.
     pub fn next(&self, at: Spot) -> Option<Spot>
