@@ -5,48 +5,46 @@ pub mod free;
 pub mod walk;
 pub mod way;
 
-ghost use Rattle.std.specs.Prelude.{◌≡◌, ◌+◌, ◌*◌, ◌<◌, ◌≤◌, length};
+ghost use Rattle.std.specs.Prelude.{◌≡◌, ◌+◌, ◌*◌, ◌<◌};
 ghost use Rattle.tile_bytes.specs.Bytes.{field, each, way_bytes};
-ghost use Rattle.tile_bytes.specs.Puts.{Puts};
 ghost use Rattle.tile_ways.specs.Ways.{Known, border_way_in, borders_in};
+ghost use Rattle.writer.specs.Wrote.{Room, Writes};
 
 use crate::free::FreeGrid;
 use crate::walk::Walk;
 use tile::border::{border_cells, border_spot};
-use tile_bytes::{put, put_head, put_two};
+use tile_bytes::{put_head, put_two};
+use writer::Writer;
 
 // Puts the way of border cell b.
-fn put_way(bytes: &mut [u8], at: usize, walk: &mut Walk<'_>, b: usize) -> usize
+fn put_way(to: &mut Writer<'_>, walk: &mut Walk<'_>, b: usize)
     requires border { b < borders_in walk.old.free.now.grid }
-    requires room { at + 3 ≤ length bytes.old }
-    ensures puts { Puts (way_bytes (border_way_in walk.old.free.now.grid b)) bytes.old at bytes.new result }
+    requires room { Room 3 to.old }
+    ensures puts { Writes (way_bytes (border_way_in walk.old.free.now.grid b)) to.old to.new }
     ensures stays { walk.new.free ≡ walk.old.free }
 {
     let spot = border_spot(walk.free.tile(), b);
     let (number, code) = walk.way_of(spot).fields();
-    let next = put_two(bytes, at, number);
-    put(bytes, next, &[code])
+    put_two(to, number);
+    to.byte(code);
 }
 
 // Puts the ways of the border cells.
-fn put_ways(bytes: &mut [u8], at: usize, walk: &mut Walk<'_>) -> usize
-    requires { at + 3 * borders_in walk.old.free.now.grid ≤ length bytes.old }
-    ensures { Puts (each (borders_in walk.old.free.now.grid) (λ b. way_bytes (border_way_in walk.old.free.now.grid b))) bytes.old at bytes.new result }
+fn put_ways(to: &mut Writer<'_>, walk: &mut Walk<'_>)
+    requires { Room (3 * borders_in walk.old.free.now.grid) to.old }
+    ensures { Writes (each (borders_in walk.old.free.now.grid) (λ b. way_bytes (border_way_in walk.old.free.now.grid b))) to.old to.new }
 {
-    let mut next = at;
     for b in 0..border_cells(walk.free.tile()) {
-        next = put_way(bytes, next, walk, b);
+        put_way(to, walk, b);
     }
-    next
 }
 
 // Writes field 3: the way of each border cell.
-pub fn write_ways(bytes: &mut [u8], at: usize, free: &FreeGrid<'_>, known: &mut [u32]) -> usize
+pub fn write_ways(to: &mut Writer<'_>, free: &FreeGrid<'_>, known: &mut [u32])
     requires known { Known free.now.grid.sheet.rows free.now.grid.sheet.cols free.now.grid.codes.now known.old }
-    requires room { at + 3 + 3 * borders_in free.now.grid ≤ length bytes.old }
-    ensures { Puts (field 3 (each (borders_in free.now.grid) (λ b. way_bytes (border_way_in free.now.grid b)))) bytes.old at bytes.new result }
+    requires room { Room (3 + 3 * borders_in free.now.grid) to.old }
+    ensures { Writes (field 3 (each (borders_in free.now.grid) (λ b. way_bytes (border_way_in free.now.grid b)))) to.old to.new }
 {
-    let next = put_head(bytes, at, 3, 3 * border_cells(free.tile()) as u16);
-    let mut walk = Walk { free, known };
-    put_ways(bytes, next, &mut walk)
+    put_head(to, 3, 3 * border_cells(free.tile()) as u16);
+    put_ways(to, &mut Walk { free, known });
 }

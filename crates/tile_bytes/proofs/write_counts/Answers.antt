@@ -17,4 +17,4 @@ overflow_mul-border_cells c = let m = cells_most _ _ c.args.tile.bounds in grind
 pub returns : goal.returns
 returns c =
     let a = c.args in
-    puts_field {contents = each (border_cells a.tile.rows a.tile.cols) (λ i. border_count a.tile.rows a.tile.cols a.counts.now i)} (omega (arith, c.border_cells.ensures, counts_long a.tile.rows a.tile.cols a.counts.now (border_cells a.tile.rows a.tile.cols))) c.put_head-next.ensures c.put_counts.ensures
+    puts_field {contents = each (border_cells a.tile.rows a.tile.cols) (λ i. border_count a.tile.rows a.tile.cols a.counts.now i)} (omega (arith, c.border_cells.ensures, counts_long a.tile.rows a.tile.cols a.counts.now (border_cells a.tile.rows a.tile.cols))) c.put_head.ensures c.put_counts.ensures

@@ -4,30 +4,31 @@ use mathlib.Core.Path.{◌≡◌, refl, sym, ap, ◌∙◌}
 use native.Mathlib.Omega.{arith}
 use Rattle.tile_bytes.specs.Bytes.{way_bytes}
 use Rattle.tile_bytes.proofs.Each.{ways_long}
-use Rattle.tile_bytes.proofs.Puts.{puts_start, puts_more, puts_is}
+use Rattle.tile_bytes.proofs.Puts.{puts_start, puts_more}
+use Rattle.writer.proofs.Wrote.{writes_is, writes_long}
 use Rattle.tile_ways.specs.Ways.{border_way_in, borders_in}
 use Rattle.tile_ways.proofs.put_ways.Goals as goal
 
 pub loop-b-init : goal.loop-b-init
-loop-b-init c = record { stays = refl; puts = puts_start _ _ _ }
+loop-b-init c = record { stays = refl; puts = puts_start _ _ (omega arith) }
 
-pub put_way-next-requires-clause-border : goal.put_way-next-requires-clause-border
-put_way-next-requires-clause-border c =
+pub put_way-requires-clause-border : goal.put_way-requires-clause-border
+put_way-requires-clause-border c =
     rw c.loop-b.invariant.stays (omega (arith, rw (c.tile.ensures.rows, c.tile.ensures.cols) at c.border_cells-b-end.ensures))
 
-pub put_way-next-requires-clause-room : goal.put_way-next-requires-clause-room
-put_way-next-requires-clause-room c =
+pub put_way-requires-clause-room : goal.put_way-requires-clause-room
+put_way-requires-clause-room c =
     let g = c.args.walk.now.free.now.grid in
     let m = c.loop-b.invariant.puts in
-    omega (arith, ways_long g.sheet.rows g.sheet.cols g.codes.now c.loop-b.b, rw (c.tile.ensures.rows, c.tile.ensures.cols) at c.border_cells-b-end.ensures)
+    omega (arith, writes_long m, ways_long g.sheet.rows g.sheet.cols g.codes.now c.loop-b.b, rw (c.tile.ensures.rows, c.tile.ensures.cols) at c.border_cells-b-end.ensures)
 
 pub loop-b-preserved : goal.loop-b-preserved
 loop-b-preserved c =
     let m = c.loop-b.invariant in
     let g = c.args.walk.now.free.now.grid in
     record {
-      stays = c.put_way-next.ensures.stays ∙ m.stays;
-      puts = puts_more (λ b. way_bytes (border_way_in g b)) _ m.puts (puts_is (ap (λ f. way_bytes (border_way_in f.now.grid c.loop-b.b)) m.stays) c.put_way-next.ensures.puts);
+      stays = c.put_way.ensures.stays ∙ m.stays;
+      puts = puts_more (λ b. way_bytes (border_way_in g b)) _ m.puts (writes_is (ap (λ f. way_bytes (border_way_in f.now.grid c.loop-b.b)) m.stays) c.put_way.ensures.puts);
     }
 
 pub returns : goal.returns

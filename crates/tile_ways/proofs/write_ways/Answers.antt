@@ -17,4 +17,4 @@ overflow_mul-border_cells c = let m = cells_most _ _ c.tile.result.bounds in ome
 pub returns : goal.returns
 returns c =
     let g = c.args.free.now.grid in
-    puts_field {contents = each (borders_in g) (λ b. way_bytes (border_way_in g b))} (omega (arith, ways_long g.sheet.rows g.sheet.cols g.codes.now (borders_in g), rw (c.tile.ensures.rows, c.tile.ensures.cols) at c.border_cells.ensures)) c.put_head-next.ensures c.put_ways.ensures
+    puts_field {contents = each (borders_in g) (λ b. way_bytes (border_way_in g b))} (omega (arith, ways_long g.sheet.rows g.sheet.cols g.codes.now (borders_in g), rw (c.tile.ensures.rows, c.tile.ensures.cols) at c.border_cells.ensures)) c.put_head.ensures c.put_ways.ensures
