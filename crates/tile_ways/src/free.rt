@@ -5,9 +5,9 @@ ghost use Rattle.tile_ways.specs.Ways.{FreeTile};
 
 use crate::way::BorderWay;
 use sheet::grid::Grid;
-use sheet::shape::{Shape, Tile};
 use sheet::step::Spot;
 use tile::border::border_number;
+use tile::shape::tile_of;
 
 // The codes of a tile whose arrows form no loop.
 #[derive(Clone, Copy)]
@@ -20,17 +20,6 @@ impl<'a> FreeGrid<'a> {
     ghost use Rattle.tile_ways.specs.Told.{told};
     ghost use Rattle.tile_ways.specs.Ways.{end_way_in};
 
-    // Its shape.
-    pub fn tile(&self) -> Tile
-        ensures rows { result.rows ≡ self.now.grid.sheet.rows }
-        ensures cols { result.cols ≡ self.now.grid.sheet.cols }
-    {
-        Shape {
-            rows: self.grid.sheet.rows,
-            cols: self.grid.sheet.cols,
-        }
-    }
-
     // The way of a path whose last cell this is: over the edge there, or it ends inside.
     pub fn way_from(&self, at: Spot) -> BorderWay
         requires on_grid { OnGrid self.now.grid at }
@@ -42,7 +31,7 @@ impl<'a> FreeGrid<'a> {
         match sheet.beside(at, code) {
             Some(_) => BorderWay::Inside,
             None => BorderWay::Over {
-                number: border_number(self.tile(), at) as u16,
+                number: border_number(tile_of(&self.grid), at) as u16,
                 code,
             },
         }

@@ -14,13 +14,13 @@ loop-b-init c = record { stays = refl; puts = puts_start _ _ (omega arith) }
 
 pub put_way-requires-clause-border : goal.put_way-requires-clause-border
 put_way-requires-clause-border c =
-    rw c.loop-b.invariant.stays (omega (arith, rw (c.tile.ensures.rows, c.tile.ensures.cols) at c.border_cells-b-end.ensures))
+    rw c.loop-b.invariant.stays (omega (arith, rw (c.tile_of.ensures.rows, c.tile_of.ensures.cols) at c.border_cells-b-end.ensures))
 
 pub put_way-requires-clause-room : goal.put_way-requires-clause-room
 put_way-requires-clause-room c =
     let g = c.args.walk.now.free.now.grid in
     let m = c.loop-b.invariant.puts in
-    omega (arith, writes_long m, ways_long g.sheet.rows g.sheet.cols g.codes.now c.loop-b.b, rw (c.tile.ensures.rows, c.tile.ensures.cols) at c.border_cells-b-end.ensures)
+    omega (arith, writes_long m, ways_long g.sheet.rows g.sheet.cols g.codes.now c.loop-b.b, rw (c.tile_of.ensures.rows, c.tile_of.ensures.cols) at c.border_cells-b-end.ensures)
 
 pub loop-b-preserved : goal.loop-b-preserved
 loop-b-preserved c =
@@ -34,5 +34,5 @@ loop-b-preserved c =
 pub returns : goal.returns
 returns c =
     let g = c.args.walk.now.free.now.grid in
-    let e : c.loop-b.b ≡ borders_in g = omega (arith, rw (c.tile.ensures.rows, c.tile.ensures.cols) at c.border_cells-b-end.ensures) in
+    let e : c.loop-b.b ≡ borders_in g = omega (arith, rw (c.tile_of.ensures.rows, c.tile_of.ensures.cols) at c.border_cells-b-end.ensures) in
     rw (sym e) c.loop-b.invariant.puts
