@@ -15,6 +15,7 @@ use tile::shape::tile_of;
 const MOST: u32 = 4194304;
 
 // Whether what comes in at a border cell with this code can be taken.
+#[tactic(auto, unfolding(crate::specs::Method::may_come_in))]
 fn may_come_in(code: u8, n: u32) -> bool
     ensures { result ≡ may_come_in code n }
 {
@@ -23,14 +24,14 @@ fn may_come_in(code: u8, n: u32) -> bool
 
 // A tile with its codes, and a number for each of its border cells, which comes in there.
 #[derive(Clone, Copy)]
-pub struct Incoming<'a> {
-    pub grid: Grid<'a>,
-    pub numbers: &'a [u32],
+pub struct Incoming<'g, 'n> {
+    pub grid: Grid<'g>,
+    pub numbers: &'n [u32],
     pub ghost small: { TileShape grid.sheet.rows grid.sheet.cols },
     pub ghost numbers_long: { length numbers.now ≡ border_cells grid.sheet.rows grid.sheet.cols },
 }
 
-impl<'a> Incoming<'a> {
+impl<'g, 'n> Incoming<'g, 'n> {
     ghost use Rattle.tile.specs.Border.{border_place};
     ghost use Rattle.tile_finish.specs.Finish.{IncomingOk};
     ghost use Rattle.tile_finish.specs.Method.{Spread};

@@ -42,15 +42,30 @@ pub fn finish(
     let tile = Tile::new(rows, cols).ok_or(FinishError::Shape)?;
     let sheet = tile.sheet();
     let n = sheet.cells();
-    if grid.len() != n || incoming.len() != border_cells(tile) || counts.len() != n || work.len() != n {
+    if grid.len() != n
+        || incoming.len() != border_cells(tile)
+        || counts.len() != n
+        || work.len() != n
+    {
         return Err(FinishError::Length);
     }
     let grid = Grid { sheet, codes: grid };
-    finish_cells(&Incoming { grid, numbers: incoming }, counts, work)
+    finish_cells(
+        &Incoming {
+            grid,
+            numbers: incoming,
+        },
+        counts,
+        work,
+    )
 }
 
 // The same where shape and lengths fit.
-fn finish_cells(incoming: &Incoming<'_>, counts: &mut [u32], work: &mut [u32]) -> Result<(), FinishError>
+fn finish_cells(
+    incoming: &Incoming<'_, '_>,
+    counts: &mut [u32],
+    work: &mut [u32],
+) -> Result<(), FinishError>
     requires counts_long { length counts.old ≡ cells_in incoming.now.grid }
     requires work_long { length work.old ≡ cells_in incoming.now.grid }
     ensures { FinishCells incoming.now.grid.sheet.rows incoming.now.grid.sheet.cols incoming.now.grid.codes.now incoming.now.numbers.now counts.old work.old (ends (finish_reply result) counts.new work.new) }
@@ -66,7 +81,11 @@ fn finish_cells(incoming: &Incoming<'_>, counts: &mut [u32], work: &mut [u32]) -
 
 // Counts the tile with what comes in. The first land cell that the scan leaves without a count lies on a loop, and where none is left all is
 // counted.
-fn finish_taken(incoming: &Incoming<'_>, counts: &mut [u32], work: &mut [u32]) -> Result<(), FinishError>
+fn finish_taken(
+    incoming: &Incoming<'_, '_>,
+    counts: &mut [u32],
+    work: &mut [u32],
+) -> Result<(), FinishError>
     requires counts_long { length counts.old ≡ cells_in incoming.now.grid }
     requires work_long { length work.old ≡ cells_in incoming.now.grid }
     requires taken { AllMayComeIn incoming.now.grid.sheet.rows incoming.now.grid.sheet.cols incoming.now.grid.codes.now incoming.now.numbers.now }
