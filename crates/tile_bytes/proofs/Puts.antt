@@ -6,7 +6,7 @@ use Prim.Native.Nat.{ℕ, ◌+◌, ◌≤◌}
 use lib.ListN.{length}
 use Rattle.tile_bytes.specs.Bytes.{two, field, each}
 use Rattle.tile_bytes.proofs.Each.{each_none, each_next}
-use Rattle.writer.specs.Wrote.{Writes}
+use Rattle.writer.specs.Parts.{Writes}
 use Rattle.writer.specs.declared.Writer.{Writer}
 use Rattle.writer.proofs.Wrote.{writes_none, writes_then, writes_is}
 

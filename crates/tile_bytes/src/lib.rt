@@ -6,7 +6,7 @@ pub mod position;
 ghost use Rattle.std.specs.Prelude.{◌∷◌, ◌≡◌, ◌+◌, ◌*◌, ◌<◌, length};
 ghost use Rattle.tile.specs.Border.{border_cells};
 ghost use Rattle.tile_bytes.specs.Bytes.{two, field, each, sides, border_count};
-ghost use Rattle.writer.specs.Wrote.{Room, Writes};
+ghost use Rattle.writer.specs.Parts.{Room, Writes};
 
 use crate::position::Position;
 use sheet::shape::Tile;

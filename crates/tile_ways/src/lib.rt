@@ -8,7 +8,7 @@ pub mod way;
 ghost use Rattle.std.specs.Prelude.{◌≡◌, ◌+◌, ◌*◌, ◌<◌};
 ghost use Rattle.tile_bytes.specs.Bytes.{field, each, way_bytes};
 ghost use Rattle.tile_ways.specs.Ways.{Known, border_way_in, borders_in};
-ghost use Rattle.writer.specs.Wrote.{Room, Writes};
+ghost use Rattle.writer.specs.Parts.{Room, Writes};
 
 use crate::free::FreeGrid;
 use crate::walk::Walk;

@@ -7,7 +7,8 @@ use native.Mathlib.Omega.{arith}
 use native.Mathlib.Numerals.{add-one}
 use lib.ListN.{length, take, drop, set, length-append, length-drop, take-append-drop}
 use lib.Seq.{length-take-le, take_at, drop-append-add, drop-drop, set_split}
-use Rattle.writer.specs.Wrote.{Wrote, Writes}
+use Rattle.writer.specs.Parts.{Writes}
+use Rattle.writer.specs.Wrote.{Wrote}
 use Rattle.writer.specs.declared.Writer.{Writer}
 
 pub wrote_none : (out : List ℕ) (at : ℕ) → at ≤ length out → Wrote [] out at out at

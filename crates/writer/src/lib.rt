@@ -1,8 +1,8 @@
 // Bytes written one after the other into a buffer that is lent: words and lines for the count program, fields for a border record.
 #![tactic(auto)]
 
-ghost use Rattle.std.specs.Prelude.{[], ◌++◌, ◌∷◌, ◌≡◌, ◌+◌, ◌<◌, ◌≤◌, length};
-ghost use Rattle.writer.specs.Wrote.{Wrote, Room, Writes};
+ghost use Rattle.std.specs.Prelude.{[], ◌∷◌, ◌≡◌, length};
+ghost use Rattle.writer.specs.Parts.{Room, Writes};
 
 // A buffer, and where the next byte goes.
 #[derive(Drop)]

@@ -1,7 +1,7 @@
 -- The loop of `tile_ways::put_ways`: what it keeps.
 use mathlib.Core.Path.{◌≡◌}
 use Rattle.tile_bytes.specs.Bytes.{each, way_bytes}
-use Rattle.writer.specs.Wrote.{Writes}
+use Rattle.writer.specs.Parts.{Writes}
 use Rattle.tile_ways.specs.Ways.{border_way_in}
 use Rattle.tile_ways.proofs.put_ways.Given as goal
 
