@@ -10,7 +10,7 @@ ghost use Rattle.writer.specs.Parts.{Room, Writes};
 
 use crate::position::Position;
 use sheet::shape::Tile;
-use tile::border::{border_cells, border_spot};
+use tile::border::{border_cells, border_place};
 use writer::Writer;
 
 // Puts a number in two bytes, the higher first.
@@ -49,8 +49,7 @@ fn put_count(to: &mut Writer<'_>, tile: Tile, counts: &[u32], b: usize)
     requires room { Room 4 to.old }
     ensures { Writes (border_count tile.rows tile.cols counts.now b) to.old to.new }
 {
-    let place = tile.sheet().place(border_spot(tile, b));
-    to.word(&counts[place].to_be_bytes());
+    to.word(&counts[border_place(tile, b)].to_be_bytes());
 }
 
 // Puts the counts of the border cells.

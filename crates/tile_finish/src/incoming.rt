@@ -8,7 +8,7 @@ ghost use Rattle.tile_finish.specs.Method.{may_come_in};
 
 use sheet::compass::is_arrow;
 use sheet::grid::Grid;
-use tile::border::border_spot;
+use tile::border::border_place;
 use tile::shape::tile_of;
 
 // The most that comes in at one cell: the cells of the greatest mosaic.
@@ -32,25 +32,16 @@ pub struct Incoming<'g, 'n> {
 }
 
 impl<'g, 'n> Incoming<'g, 'n> {
-    ghost use Rattle.tile.specs.Border.{border_place};
     ghost use Rattle.tile_finish.specs.Finish.{IncomingOk};
     ghost use Rattle.tile_finish.specs.Method.{Spread};
-
-    // The place of border cell b.
-    fn place(&self, b: usize) -> usize
-        requires { b < border_cells self.now.grid.sheet.rows self.now.grid.sheet.cols }
-        ensures value { result ≡ border_place self.now.grid.sheet.rows self.now.grid.sheet.cols b }
-        ensures inside { result < cells_in self.now.grid }
-    {
-        self.grid.sheet.place(border_spot(tile_of(&self.grid), b))
-    }
 
     // The first border cell at which more comes in than can be taken.
     pub fn first_bad(&self) -> Option<usize>
         ensures { Finds (border_cells self.now.grid.sheet.rows self.now.grid.sheet.cols) (IncomingOk self.now.grid.sheet.rows self.now.grid.sheet.cols self.now.grid.codes.now self.now.numbers.now) result }
     {
+        let tile = tile_of(&self.grid);
         for (b, n) in self.numbers.iter().enumerate() {
-            if !may_come_in(self.grid.codes[self.place(b)], *n) {
+            if !may_come_in(self.grid.codes[border_place(tile, b)], *n) {
                 return Some(b);
             }
         }
@@ -62,8 +53,9 @@ impl<'g, 'n> Incoming<'g, 'n> {
         requires { work.old ≡ replicate (cells_in self.now.grid) 0 }
         ensures { Spread self.now.grid.sheet.rows self.now.grid.sheet.cols self.now.numbers.now work.new (border_cells self.now.grid.sheet.rows self.now.grid.sheet.cols) }
     {
+        let tile = tile_of(&self.grid);
         for (b, n) in self.numbers.iter().enumerate() {
-            work[self.place(b)] = *n;
+            work[border_place(tile, b)] = *n;
         }
     }
 }
