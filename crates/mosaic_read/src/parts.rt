@@ -4,16 +4,9 @@ ghost use Rattle.mosaic_read.specs.Records.{ways_start};
 ghost use Rattle.mosaic_read.specs.Method.{Says};
 
 use crate::bytes::two_at;
-use crate::record::BorderRecord;
+use crate::record::{ABSENT, BorderRecord, ENDS_INSIDE, NO_WAY};
 use sheet::compass::is_arrow;
 use tile::border::border_spot;
-
-// What a way holds where it names no border cell: this number, with one code where the cell is absent and another where the water ends inside.
-const NO_WAY: usize = 65535;
-
-const ABSENT: u8 = 255;
-
-const ENDS_INSIDE: u8 = 0;
 
 impl BorderRecord<'_> {
     ghost use Rattle.mosaic_read.specs.BorderRecord.{Inside, RecordCountsOk, RecordWayOk, RecordWaysOk};

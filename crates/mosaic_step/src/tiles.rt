@@ -39,6 +39,14 @@ impl<'a> Tiles<'a> {
         self.mosaic.tile_rows * self.mosaic.tile_cols
     }
 
+    // The number in the mosaic of the first border cell of a tile.
+    pub fn first(&self, number: usize) -> usize
+        requires { number < self.now.mosaic.tile_rows * self.now.mosaic.tile_cols }
+        ensures { result ≡ borders_before self.now.mosaic.tile_cols (heights self.now.mosaic.records.now self.now.mosaic.tile_cols) (widths self.now.mosaic.records.now) number }
+    {
+        self.table[2 * number + 1] as usize
+    }
+
     // The tile in a tile row and a tile column. Nothing is divided.
     pub fn tile_at(&self, place: Spot) -> MosaicTile<'a>
         requires { (place.row < self.now.mosaic.tile_rows) × (place.col < self.now.mosaic.tile_cols) }
@@ -51,7 +59,7 @@ impl<'a> Tiles<'a> {
             number,
             place,
             border: BorderRecord::at(self.mosaic.records, self.table[2 * number] as usize),
-            first: self.table[2 * number + 1] as usize,
+            first: self.first(number),
         }
     }
 

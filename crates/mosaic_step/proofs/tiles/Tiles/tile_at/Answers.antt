@@ -13,5 +13,5 @@ invariant_of-result c =
     record {
       stands = record { tile = l; row = sym (row_of m.tile_cols c.args.place.row c.args.place.col c.requires.1); col = sym (col_of m.tile_cols c.args.place.row c.args.place.col c.requires.1) };
       told = record { bytes_are = c.at.ensures.bytes_are; start_is = c.at.ensures.start_is ∙ c.args.self.now.filled.starts number l };
-      before = c.args.self.now.filled.firsts number l;
+      before = c.first.ensures;
     }
