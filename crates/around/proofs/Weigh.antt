@@ -13,10 +13,11 @@ use Rattle.flow.specs.Net.{on, sum, given}
 use Rattle.flow.proofs.Sum.{same, on_true, on_eq, on_ne, sum_ext, sum_add, sum_mono, sum_some, sum_times}
 use Rattle.flow.proofs.Count.{gives}
 use Rattle.sheet.specs.Leaves.{Place}
-use Rattle.around.specs.Around.{LooksAround, adds, term, comes_from, weigh, weighed}
+use Rattle.around.specs.Around.{LooksAround, adds, term, comes_from}
+use Rattle.around.specs.Weight.{weigh, weighed}
 use Rattle.sheet.specs.Compass.{step_at, is_arrow}
 use Rattle.sheet.specs.Sheet.{code_at, count_at, land_at, dest_of}
-use Rattle.around.specs.declared.Around.TheVariants.{Waiting, Ready}
+use Rattle.std.specs.Prelude.{Some, None}
 use Rattle.around.proofs.Bridge.{bridge}
 use Rattle.sheet.proofs.Dest.{code_read, no_land}
 
@@ -89,14 +90,14 @@ module _ (rows cols : ℕ) (g counts : List ℕ) (p : ℕ) where
       parts : s ≡ given (rows * cols) (dest_of rows cols g) (count_at counts) p + 1099511627776 * given (rows * cols) (dest_of rows cols g) (zero_at counts) p
       parts = e ∙ sym (on_true _ land) ∙ sym (bridge rows cols g (weighed counts) p at_p long) ∙ given_weighed
 
-      pub looks_ready : s < 1099511627776 → LooksAround rows cols g counts p (Ready s)
+      pub looks_ready : s < 1099511627776 → LooksAround rows cols g counts p (Some s)
       looks_ready h = (
         λ q l d z. let k : zero_at counts q ≤ given (rows * cols) (dest_of rows cols g) (zero_at counts) p = gives (rows * cols) (dest_of rows cols g) (zero_at counts) p q l d in
             omega (arith, parts, on_eq (count_at counts q) 0 1 z),
         omega (arith, parts),
       )
 
-      pub looks_waiting : 1099511627776 ≤ s → LooksAround rows cols g counts p Waiting
+      pub looks_waiting : 1099511627776 ≤ s → LooksAround rows cols g counts p None
       unfolding given
       looks_waiting h =
           let (q, l, k) = sum_some (rows * cols) (λ q. on (eqb (dest_of rows cols g q) p) (zero_at counts q)) (omega (arith, parts, given_small)) in

@@ -1,16 +1,15 @@
 -- What a look-around answers; last, what the functions that make one promise each other.
 -- Assumes nothing.
-use Rattle.std.specs.Prelude.{cond, List, ◌≡◌, ℕ, ◌+◌, ◌*◌, ◌/◌, ◌%◌, ◌<◌, ◌≤◌, eqb}
+use Rattle.std.specs.Prelude.{Option, Some, None, List, ◌≡◌, ℕ, ◌+◌, ◌*◌, ◌/◌, ◌%◌, ◌<◌, ◌≤◌, eqb}
 use Rattle.flow.specs.Net.{on, given}
 use Rattle.sheet.specs.Compass.{step_at}
 use Rattle.sheet.specs.Sheet.{code_at, count_at, step_from, dest_of}
-use Rattle.around.specs.declared.Around.{Around}
-use Rattle.around.specs.declared.Around.TheVariants.{Waiting, Ready}
+use Rattle.sheet.specs.declared.grid.Grid.{Grid}
 
 -- what a look-around at p finds: some giver has no count yet, or all have one, and their sum
-abbrev pub LooksAround : ℕ → ℕ → List ℕ → List ℕ → ℕ → Around → Type 0
-LooksAround rows cols g counts p Waiting = (q : ℕ) × (q < rows * cols) × (dest_of rows cols g q ≡ p) × (count_at counts q ≡ 0)
-LooksAround rows cols g counts p (Ready s) =
+abbrev pub LooksAround : ℕ → ℕ → List ℕ → List ℕ → ℕ → Option ℕ → Type 0
+LooksAround rows cols g counts p None = (q : ℕ) × (q < rows * cols) × (dest_of rows cols g q ≡ p) × (count_at counts q ≡ 0)
+LooksAround rows cols g counts p (Some s) =
     ((q : ℕ) → q < rows * cols → dest_of rows cols g q ≡ p → count_at counts q ≡ 0 → ⊥)
     × (s ≡ given (rows * cols) (dest_of rows cols g) (count_at counts) p)
 
@@ -43,14 +42,6 @@ adds g w q x = on (eqb (code_at g q) x) (w q)
 unfoldable pub term : ℕ → ℕ → List ℕ → (ℕ → ℕ) → ℕ → ℕ → ℕ
 term rows cols g w p j = adds g w (comes_from rows cols p j) (step_at j).0
 
--- 1 for each place
-abbrev pub one : ℕ → ℕ
-one q = 1
-
--- a count, or where there is none yet a number above every sum of eight counts
-unfoldable pub weigh : ℕ → ℕ
-weigh n = cond (eqb n 0) 1099511627776 n
-
--- the counts so weighed
-abbrev pub weighed : List ℕ → ℕ → ℕ
-weighed counts q = weigh (count_at counts q)
+-- the same in a grid
+abbrev pub terms : Grid → (ℕ → ℕ) → ℕ → ℕ → ℕ
+terms g w p j = term g.sheet.rows g.sheet.cols g.codes.now w p j

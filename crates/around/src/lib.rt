@@ -1,239 +1,134 @@
 // The look-around at a cell: whether all its givers have counts, what these come to, and how many givers there are.
 #![tactic(auto)]
 
-ghost use Rattle.std.specs.Prelude.{true, ◌≡◌, ◌+◌, ◌*◌, ◌<◌, ◌≤◌, length};
+pub mod weight;
+
+ghost use Rattle.std.specs.Prelude.{true, ◌≡◌, ◌<◌, ◌≤◌, ◌*◌, ℕ, length};
 ghost use Rattle.flow.specs.Net.{sum, given};
 ghost use Rattle.sheet.specs.Compass.{is_arrow, step_of};
-ghost use Rattle.sheet.specs.Leaves.{Place, Cell};
-ghost use Rattle.around.specs.Around.{Inner, LooksAround, adds, term, one, weigh, weighed};
-ghost use Rattle.sheet.specs.Sheet.{land_at, count_at, step_from, dest_of};
+ghost use Rattle.sheet.specs.Grid.{OnGrid, cells_in, place_in, land_in, dest_in};
+ghost use Rattle.sheet.specs.Sheet.{count_at, step_from};
+ghost use Rattle.around.specs.Around.{Inner, LooksAround, adds, term, terms};
+ghost use Rattle.around.specs.Weight.{one};
 
-use sheet::step::beside;
+use crate::weight::{Counts, NO_COUNT, One, Weight};
+use sheet::grid::Grid;
+use sheet::step::Spot;
 
-// What a look-around finds: some giver has no count yet, or all have one, and their sum.
-#[derive(Drop)]
-pub enum Around {
-    Waiting,
-    Ready(u64),
-}
-
-// A count, or more than any sum of eight counts where there is none yet: one sum then tells both things.
-fn weight(n: u32) -> u64
-    ensures { (result ≡ weigh n) × (result ≤ 1099511627776) }
+// What place q adds where it has the code. Its weight is asked for only there.
+fn seen<W: Weight>(grid: &Grid<'_>, weight: &W, q: usize, code: u8) -> u64
+    requires on_grid { q < cells_in grid.now }
+    requires covered { W.covers weight.now q }
+    ensures value { result ≡ adds grid.now.codes.now (W.weight weight.now) q code }
+    ensures most { result ≤ 1099511627776 }
 {
-    if n == 0 { 1099511627776 } else { n as u64 }
-}
-
-// What place q adds where it has the code. Its count is read only there.
-fn seen(grid: &[u8], counts: &[u32], q: usize, code: u8) -> u64
-    requires { (q < length grid.now) × (q < length counts.now) }
-    ensures { (result ≡ adds grid.now (weighed counts.now) q code) × (result ≤ 1099511627776) }
-{
-    if grid[q] == code {
-        return weight(counts[q]);
+    if grid.codes[q] == code {
+        weight.of(q)
+    } else {
+        0
     }
-    0
 }
 
-// The same of the neighbour one step of `back` from row r and column c, where there is one.
-fn seen_from(
-    rows: usize,
-    cols: usize,
-    grid: &[u8],
-    counts: &[u32],
-    r: usize,
-    c: usize,
-    back: u8,
-    code: u8,
-) -> u64
-    requires cell { Cell rows cols r c }
-    requires grid_len { (length grid.now ≡ rows * cols) × (length counts.now ≡ rows * cols) }
+// The same of the neighbour one step of `back` from a cell, where there is one.
+fn seen_from<W: Weight>(grid: &Grid<'_>, weight: &W, at: Spot, back: u8, code: u8) -> u64
+    requires on_grid { OnGrid grid.now at }
+    requires covered { (q : ℕ) → q < cells_in grid.now → W.covers weight.now q }
     requires both_arrows { (is_arrow back ≡ true) × (is_arrow code ≡ true) }
-    ensures { (result ≡ adds grid.now (weighed counts.now) (step_from rows cols (step_of back) (r * cols + c)) code) × (result ≤ 1099511627776) }
+    ensures value { result ≡ adds grid.now.codes.now (W.weight weight.now) (step_from grid.now.sheet.rows grid.now.sheet.cols (step_of back) (place_in grid.now at)) code }
+    ensures most { result ≤ 1099511627776 }
 {
-    let none = rows * cols;
-    let q = beside(rows, cols, r, c, back);
-    if q < none {
-        return seen(grid, counts, q, code);
+    match grid.sheet.beside(at, back) {
+        Some(from) => seen(grid, weight, grid.sheet.place(from), code),
+        None => 0,
     }
-    0
 }
 
 // The sum over the eight neighbours of a place that is not on the edge: eight reads and no test of where they lie.
-fn inner(rows: usize, cols: usize, grid: &[u8], counts: &[u32], p: usize) -> u64
-    requires inner { Inner rows cols p }
-    requires grid_len { (length grid.now ≡ rows * cols) × (length counts.now ≡ rows * cols) }
-    ensures { result ≡ sum 8 (term rows cols grid.now (weighed counts.now) p) }
+fn inner<W: Weight>(grid: &Grid<'_>, weight: &W, p: usize) -> u64
+    requires inner { Inner grid.now.sheet.rows grid.now.sheet.cols p }
+    requires covered { (q : ℕ) → q < cells_in grid.now → W.covers weight.now q }
+    ensures { result ≡ sum 8 (terms grid.now (W.weight weight.now) p) }
 {
-    let east = seen(grid, counts, p - 1, 1);
-    let south_east = seen(grid, counts, p - cols - 1, 2);
-    let south = seen(grid, counts, p - cols, 4);
-    let south_west = seen(grid, counts, p - cols + 1, 8);
-    let west = seen(grid, counts, p + 1, 16);
-    let north_west = seen(grid, counts, p + cols + 1, 32);
-    let north = seen(grid, counts, p + cols, 64);
-    let north_east = seen(grid, counts, p + cols - 1, 128);
+    let cols = grid.sheet.cols;
+    let east = seen(grid, weight, p - 1, 1);
+    let south_east = seen(grid, weight, p - cols - 1, 2);
+    let south = seen(grid, weight, p - cols, 4);
+    let south_west = seen(grid, weight, p - cols + 1, 8);
+    let west = seen(grid, weight, p + 1, 16);
+    let north_west = seen(grid, weight, p + cols + 1, 32);
+    let north = seen(grid, weight, p + cols, 64);
+    let north_east = seen(grid, weight, p + cols - 1, 128);
     east + south_east + south + south_west + west + north_west + north + north_east
 }
 
-// The sum over the eight neighbours of any place, each sought by the opposite step of the code that it would have.
-fn edge(rows: usize, cols: usize, grid: &[u8], counts: &[u32], r: usize, c: usize) -> u64
-    requires cell { Cell rows cols r c }
-    requires grid_len { (length grid.now ≡ rows * cols) × (length counts.now ≡ rows * cols) }
-    ensures { result ≡ sum 8 (term rows cols grid.now (weighed counts.now) (r * cols + c)) }
+// The sum over the eight neighbours of any cell, each sought by the opposite step of the code that it would have.
+#[tactic(auto, unfolding(sheet::specs::Compass::is_arrow, sheet::specs::Compass::line_of))]
+fn edge<W: Weight>(grid: &Grid<'_>, weight: &W, at: Spot) -> u64
+    requires on_grid { OnGrid grid.now at }
+    requires covered { (q : ℕ) → q < cells_in grid.now → W.covers weight.now q }
+    ensures { result ≡ sum 8 (terms grid.now (W.weight weight.now) (place_in grid.now at)) }
 {
-    let east = seen_from(rows, cols, grid, counts, r, c, 16, 1);
-    let south_east = seen_from(rows, cols, grid, counts, r, c, 32, 2);
-    let south = seen_from(rows, cols, grid, counts, r, c, 64, 4);
-    let south_west = seen_from(rows, cols, grid, counts, r, c, 128, 8);
-    let west = seen_from(rows, cols, grid, counts, r, c, 1, 16);
-    let north_west = seen_from(rows, cols, grid, counts, r, c, 2, 32);
-    let north = seen_from(rows, cols, grid, counts, r, c, 4, 64);
-    let north_east = seen_from(rows, cols, grid, counts, r, c, 8, 128);
+    let east = seen_from(grid, weight, at, 16, 1);
+    let south_east = seen_from(grid, weight, at, 32, 2);
+    let south = seen_from(grid, weight, at, 64, 4);
+    let south_west = seen_from(grid, weight, at, 128, 8);
+    let west = seen_from(grid, weight, at, 1, 16);
+    let north_west = seen_from(grid, weight, at, 2, 32);
+    let north = seen_from(grid, weight, at, 4, 64);
+    let north_east = seen_from(grid, weight, at, 8, 128);
     east + south_east + south + south_west + west + north_west + north + north_east
 }
 
-// The sum over the eight neighbours of row r and column c whose arrows step onto that cell.
-fn neighbours(rows: usize, cols: usize, grid: &[u8], counts: &[u32], r: usize, c: usize) -> u64
-    requires cell { Cell rows cols r c }
-    requires grid_len { (length grid.now ≡ rows * cols) × (length counts.now ≡ rows * cols) }
-    ensures { result ≡ sum 8 (term rows cols grid.now (weighed counts.now) (r * cols + c)) }
+// The sum over the eight neighbours of a cell whose arrows step onto it.
+fn neighbours<W: Weight>(grid: &Grid<'_>, weight: &W, at: Spot) -> u64
+    requires on_grid { OnGrid grid.now at }
+    requires covered { (q : ℕ) → q < cells_in grid.now → W.covers weight.now q }
+    ensures { result ≡ sum 8 (terms grid.now (W.weight weight.now) (place_in grid.now at)) }
 {
-    if 1 <= r {
-        if r + 1 < rows {
-            if 1 <= c {
-                if c + 1 < cols {
-                    return inner(rows, cols, grid, counts, r * cols + c);
-                }
-            }
-        }
+    let Spot { row, col } = at;
+    if 1 <= row && row + 1 < grid.sheet.rows && 1 <= col && col + 1 < grid.sheet.cols {
+        inner(grid, weight, grid.sheet.place(at))
+    } else {
+        edge(grid, weight, at)
     }
-    edge(rows, cols, grid, counts, r, c)
 }
 
-// 1 where place q has the code, else 0.
-fn has(grid: &[u8], q: usize, code: u8) -> u64
-    requires { q < length grid.now }
-    ensures { (result ≡ adds grid.now one q code) × (result ≤ 1) }
+// How many givers a land cell has. It reads no counts.
+pub fn giver_number(grid: &Grid<'_>, at: Spot) -> u64
+    requires on_grid { OnGrid grid.now at }
+    requires on_land { land_in grid.now (place_in grid.now at) ≡ true }
+    ensures { result ≡ given (cells_in grid.now) (dest_in grid.now) one (place_in grid.now at) }
 {
-    if grid[q] == code {
-        return 1;
-    }
-    0
+    neighbours(grid, &One, at)
 }
 
-// The same of the neighbour one step of `back` from row r and column c, where there is one.
-fn has_from(rows: usize, cols: usize, grid: &[u8], r: usize, c: usize, back: u8, code: u8) -> u64
-    requires cell { Cell rows cols r c }
-    requires grid_len { length grid.now ≡ rows * cols }
-    requires both_arrows { (is_arrow back ≡ true) × (is_arrow code ≡ true) }
-    ensures { (result ≡ adds grid.now one (step_from rows cols (step_of back) (r * cols + c)) code) × (result ≤ 1) }
+// The look-around at a land cell: the sum of its givers' counts, or None where some giver has no count yet.
+pub fn look_around(grid: &Grid<'_>, counts: &[u32], at: Spot) -> Option<u64>
+    requires on_grid { OnGrid grid.now at }
+    requires counts_len { length counts.now ≡ cells_in grid.now }
+    requires on_land { land_in grid.now (place_in grid.now at) ≡ true }
+    ensures { LooksAround grid.now.sheet.rows grid.now.sheet.cols grid.now.codes.now counts.now (place_in grid.now at) result }
 {
-    let none = rows * cols;
-    let q = beside(rows, cols, r, c, back);
-    if q < none {
-        return has(grid, q, code);
-    }
-    0
+    let all = neighbours(grid, &Counts(counts), at);
+    if all < NO_COUNT { Some(all) } else { None }
 }
 
-// How many of the eight neighbours step onto a place that is not on the edge.
-fn inner_givers(rows: usize, cols: usize, grid: &[u8], p: usize) -> u64
-    requires inner { Inner rows cols p }
-    requires grid_len { length grid.now ≡ rows * cols }
-    ensures { result ≡ sum 8 (term rows cols grid.now one p) }
+// The sum of the counts of the givers of a land cell, whatever they hold.
+pub fn givers_sum_at(grid: &Grid<'_>, counts: &[u32], at: Spot) -> u64
+    requires on_grid { OnGrid grid.now at }
+    requires counts_len { length counts.now ≡ cells_in grid.now }
+    requires on_land { land_in grid.now (place_in grid.now at) ≡ true }
+    ensures { result ≡ given (cells_in grid.now) (dest_in grid.now) (count_at counts.now) (place_in grid.now at) }
 {
-    let east = has(grid, p - 1, 1);
-    let south_east = has(grid, p - cols - 1, 2);
-    let south = has(grid, p - cols, 4);
-    let south_west = has(grid, p - cols + 1, 8);
-    let west = has(grid, p + 1, 16);
-    let north_west = has(grid, p + cols + 1, 32);
-    let north = has(grid, p + cols, 64);
-    let north_east = has(grid, p + cols - 1, 128);
-    east + south_east + south + south_west + west + north_west + north + north_east
-}
-
-// The same of any place.
-fn edge_givers(rows: usize, cols: usize, grid: &[u8], r: usize, c: usize) -> u64
-    requires cell { Cell rows cols r c }
-    requires grid_len { length grid.now ≡ rows * cols }
-    ensures { result ≡ sum 8 (term rows cols grid.now one (r * cols + c)) }
-{
-    let east = has_from(rows, cols, grid, r, c, 16, 1);
-    let south_east = has_from(rows, cols, grid, r, c, 32, 2);
-    let south = has_from(rows, cols, grid, r, c, 64, 4);
-    let south_west = has_from(rows, cols, grid, r, c, 128, 8);
-    let west = has_from(rows, cols, grid, r, c, 1, 16);
-    let north_west = has_from(rows, cols, grid, r, c, 2, 32);
-    let north = has_from(rows, cols, grid, r, c, 4, 64);
-    let north_east = has_from(rows, cols, grid, r, c, 8, 128);
-    east + south_east + south + south_west + west + north_west + north + north_east
-}
-
-// How many givers the land cell of row r and column c has. It reads no counts.
-pub fn giver_number(rows: usize, cols: usize, grid: &[u8], r: usize, c: usize) -> u64
-    requires cell { Cell rows cols r c }
-    requires grid_len { length grid.now ≡ rows * cols }
-    requires on_land { land_at grid.now (r * cols + c) ≡ true }
-    ensures { result ≡ given (rows * cols) (dest_of rows cols grid.now) one (r * cols + c) }
-{
-    if 1 <= r {
-        if r + 1 < rows {
-            if 1 <= c {
-                if c + 1 < cols {
-                    return inner_givers(rows, cols, grid, r * cols + c);
-                }
-            }
-        }
-    }
-    edge_givers(rows, cols, grid, r, c)
-}
-
-// The look-around at the land cell of row r and column c.
-pub fn look_around(
-    rows: usize,
-    cols: usize,
-    grid: &[u8],
-    counts: &[u32],
-    r: usize,
-    c: usize,
-) -> Around
-    requires cell { Cell rows cols r c }
-    requires grid_len { (length grid.now ≡ rows * cols) × (length counts.now ≡ rows * cols) }
-    requires on_land { land_at grid.now (r * cols + c) ≡ true }
-    ensures { LooksAround rows cols grid.now counts.now (r * cols + c) result }
-{
-    let all = neighbours(rows, cols, grid, counts, r, c);
-    if all < 1099511627776 {
-        return Around::Ready(all);
-    }
-    Around::Waiting
-}
-
-// The sum of the counts of the givers of the land cell of row r and column c, whatever they hold.
-pub fn givers_sum_at(
-    rows: usize,
-    cols: usize,
-    grid: &[u8],
-    counts: &[u32],
-    r: usize,
-    c: usize,
-) -> u64
-    requires cell { Cell rows cols r c }
-    requires grid_len { (length grid.now ≡ rows * cols) × (length counts.now ≡ rows * cols) }
-    requires on_land { land_at grid.now (r * cols + c) ≡ true }
-    ensures { result ≡ given (rows * cols) (dest_of rows cols grid.now) (count_at counts.now) (r * cols + c) }
-{
-    neighbours(rows, cols, grid, counts, r, c) % 1099511627776
+    neighbours(grid, &Counts(counts), at) % NO_COUNT
 }
 
 // The same of the land cell p.
-pub fn givers_sum(rows: usize, cols: usize, grid: &[u8], counts: &[u32], p: usize) -> u64
-    requires place { Place rows cols p }
-    requires grid_len { (length grid.now ≡ rows * cols) × (length counts.now ≡ rows * cols) }
-    requires on_land { land_at grid.now p ≡ true }
-    ensures { result ≡ given (rows * cols) (dest_of rows cols grid.now) (count_at counts.now) p }
+pub fn givers_sum(grid: &Grid<'_>, counts: &[u32], p: usize) -> u64
+    requires on_grid { p < cells_in grid.now }
+    requires counts_len { length counts.now ≡ cells_in grid.now }
+    requires on_land { land_in grid.now p ≡ true }
+    ensures { result ≡ given (cells_in grid.now) (dest_in grid.now) (count_at counts.now) p }
 {
-    givers_sum_at(rows, cols, grid, counts, p / cols, p % cols)
+    givers_sum_at(grid, counts, grid.sheet.spot(p))
 }

@@ -12,8 +12,10 @@ use Rattle.promise.specs.Reply.Reply.{reply}
 use Rattle.promise.proofs.One.{unless_one, unless_one_met, unless_all_one, unless_some_one, one_value}
 use Rattle.sheet.proofs.Unique.{loop_one, counts_one}
 use Rattle.count.specs.Count.{CountPromise, Counted, count_reply, ends}
-use Rattle.count.specs.declared.CountReply.{CountReply}
-use Rattle.count.specs.declared.CountReply.TheVariants.{Done, Shape, Length, Code, Loop}
+use Rattle.count.specs.declared.Totals.{Totals}
+use Rattle.count.specs.declared.CountError.{CountError}
+use Rattle.count.specs.declared.CountError.TheVariants.{Shape, Length, Code, Loop}
+use Rattle.std.specs.Prelude.{Result, Ok, Err}
 
 -- the equation has one solution, and the reply is given
 pub counted_one : (rows cols : ℕ) (grid : List ℕ) → length grid ≡ rows * cols → AtMostOne (Counted rows cols grid)
@@ -24,22 +26,22 @@ counted_one rows cols grid long e f a b =
 
 -- ---- the paper's numbers and values tell the answers apart
 
-answer_of : Reply → CountReply
+answer_of : Reply → Result Totals CountError
 answer_of (reply n vs) =
-    cond (eqb n 0) (Done (get_or vs 0 0) (get_or vs 1 0) (get_or vs 2 0))
-    (cond (eqb n 1) Shape (cond (eqb n 2) Length (cond (eqb n 3) (Code (get_or vs 0 0)) (Loop (get_or vs 0 0) (get_or vs 1 0)))))
+    cond (eqb n 0) (Ok (record { land = get_or vs 0 0; outlets = get_or vs 1 0; greatest = get_or vs 2 0 }))
+    (Err (cond (eqb n 1) Shape (cond (eqb n 2) Length (cond (eqb n 3) (Code (get_or vs 0 0)) (Loop (get_or vs 0 0) (get_or vs 1 0))))))
 
-answer_back : (r : CountReply) → answer_of (count_reply r) ≡ r
+answer_back : (r : Result Totals CountError) → answer_of (count_reply r) ≡ r
 unfolding answer_of
-answer_back (Done land out greatest) = refl
-answer_back Shape = refl
-answer_back Length = refl
-answer_back (Code place) = refl
-answer_back (Loop place len) = refl
+answer_back (Ok t) = refl
+answer_back (Err Shape) = refl
+answer_back (Err Length) = refl
+answer_back (Err (Code place)) = refl
+answer_back (Err (Loop place len)) = refl
 
 -- an answer with the counts that it leaves
 pub record Answer : Type 0 where
-  pub answer : CountReply
+  pub answer : Result Totals CountError
   pub counts_after : List ℕ
 
 module _ (rows cols : ℕ) (grid counts : List ℕ) where

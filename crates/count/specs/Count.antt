@@ -1,22 +1,23 @@
 -- The promise of counting (paper 01, "Replies and what remains"): 1, 2, 3, 4, done.
 -- Assumes nothing.
-use Rattle.std.specs.Prelude.{List, [], ◌∷◌, ◌≡◌, ℕ, ◌*◌, length, replicate}
+use Rattle.std.specs.Prelude.{Result, Ok, Err, List, [], ◌∷◌, ◌≡◌, ℕ, ◌*◌, length, replicate}
 use Rattle.promise.specs.Links.{Unless, UnlessAll, UnlessSome, ◌then◌}
 use Rattle.promise.specs.Reply.{Reply}
 use Rattle.promise.specs.Reply.Reply.{reply}
 use Rattle.sheet.specs.Shape.{SheetShape}
 use Rattle.sheet.specs.Sheet.{CodeOk, SheetCounts, SheetLengths, LoopIn}
 use Rattle.sheet.specs.Totals.{land_cells, outlets, greatest_count}
-use Rattle.count.specs.declared.CountReply.{CountReply}
-use Rattle.count.specs.declared.CountReply.TheVariants.{Done, Shape, Length, Code, Loop}
+use Rattle.count.specs.declared.Totals.{Totals}
+use Rattle.count.specs.declared.CountError.{CountError}
+use Rattle.count.specs.declared.CountError.TheVariants.{Shape, Length, Code, Loop}
 
 -- the paper's number and values for each answer
-abbrev pub count_reply : CountReply → Reply
-count_reply (Done land out greatest) = reply 0 (land ∷ out ∷ greatest ∷ [])
-count_reply Shape = reply 1 []
-count_reply Length = reply 2 []
-count_reply (Code place) = reply 3 (place ∷ [])
-count_reply (Loop place len) = reply 4 (place ∷ len ∷ [])
+abbrev pub count_reply : Result Totals CountError → Reply
+count_reply (Ok t) = reply 0 (t.land ∷ t.outlets ∷ t.greatest ∷ [])
+count_reply (Err Shape) = reply 1 []
+count_reply (Err Length) = reply 2 []
+count_reply (Err (Code place)) = reply 3 (place ∷ [])
+count_reply (Err (Loop place len)) = reply 4 (place ∷ len ∷ [])
 
 -- an outcome: what is said, and what the counts then hold
 pub record CountOutcome : Type 0 where

@@ -2,88 +2,78 @@
 // givers have counts. What then holds 0 on land lies on a loop.
 #![tactic(auto)]
 
-ghost use Rattle.std.specs.Prelude.{[], ◌≡◌, ◌*◌};
-ghost use Rattle.sheet.specs.Shape.{SheetShape};
+ghost use Rattle.std.specs.Prelude.{[], ◌≡◌, length};
+ghost use Rattle.sheet.specs.Grid.{cells_in};
 ghost use Rattle.count.specs.Count.{CountPromise, CountCells, Answered, count_reply, ends};
-ghost use Rattle.sheet.specs.Sheet.{SheetLengths};
-ghost use Rattle.scan.specs.Scan.{Counting, found};
+ghost use Rattle.scan.specs.Grid.{CountingIn, found_in};
 
 use loops::{first_left, loop_length};
-use promise::Found;
 use scan::scan;
-use sheet::shape::{Sheet, SheetMade};
+use sheet::grid::Grid;
+use sheet::shape::Sheet;
 use sheet::totals::{clear, first_bad_code, greatest, land_number};
 
-// The paper's replies to counting.
-#[derive(Drop)]
-pub enum CountReply {
-    Done {
-        land: usize,
-        outlets: usize,
-        greatest: u32,
-    },
+// What counting returns: the number of land cells, the number of outlets, and the greatest count.
+#[derive(Clone, Copy, PartialEq, Eq, Debug)]
+pub struct Totals {
+    pub land: usize,
+    pub outlets: usize,
+    pub greatest: u32,
+}
+
+// Why a sheet is not counted.
+#[derive(Clone, Copy, PartialEq, Eq, Debug)]
+pub enum CountError {
     Shape,
     Length,
     Code(usize),
-    Loop {
-        place: usize,
-        length: usize,
-    },
+    Loop { place: usize, length: usize },
 }
 
 // Writes the count of each cell of the grid, or refuses.
-pub fn count(rows: usize, cols: usize, grid: &[u8], counts: &mut [u32]) -> CountReply
+pub fn count(
+    rows: usize,
+    cols: usize,
+    grid: &[u8],
+    counts: &mut [u32],
+) -> Result<Totals, CountError>
     ensures { CountPromise rows cols grid.now counts.old (ends (count_reply result) counts.new) }
 {
-    let SheetMade::Fits(s) = Sheet::make(rows, cols) else {
-        return CountReply::Shape;
-    };
-    let n = s.cells;
-    if grid.len() != n {
-        return CountReply::Length;
+    let sheet = Sheet::new(rows, cols).ok_or(CountError::Shape)?;
+    let grid = Grid::new(sheet, grid).ok_or(CountError::Length)?;
+    if counts.len() != sheet.cells() {
+        return Err(CountError::Length);
     }
-    if counts.len() != n {
-        return CountReply::Length;
-    }
-    count_cells(rows, cols, grid, counts)
+    count_cells(&grid, counts)
 }
 
 // The same where shape and lengths fit.
-fn count_cells(rows: usize, cols: usize, grid: &[u8], counts: &mut [u32]) -> CountReply
-    requires sheet_shape { SheetShape rows cols }
-    requires sheet_lengths { SheetLengths rows cols grid.now counts.old }
-    ensures { CountCells rows cols grid.now counts.old (ends (count_reply result) counts.new) }
+fn count_cells(grid: &Grid<'_>, counts: &mut [u32]) -> Result<Totals, CountError>
+    requires { length counts.old ≡ cells_in grid.now }
+    ensures { CountCells grid.now.sheet.rows grid.now.sheet.cols grid.now.codes.now counts.old (ends (count_reply result) counts.new) }
 {
-    if let Found::At(p) = first_bad_code(grid) {
-        return CountReply::Code(p);
+    if let Some(place) = first_bad_code(grid.codes) {
+        return Err(CountError::Code(place));
     }
     clear(counts);
-    let outlets = scan(rows, cols, grid, &[], counts);
-    answer(rows, cols, grid, counts, outlets)
+    let outlets = scan(grid, &[], counts);
+    answer(grid, counts, outlets)
 }
 
 // What is said once the scan is over: the first land cell that is left without a count lies on a loop, and where none is left all is counted.
-fn answer(rows: usize, cols: usize, grid: &[u8], counts: &mut [u32], outlets: usize) -> CountReply
-    requires sheet_shape { SheetShape rows cols }
-    requires sheet_lengths { SheetLengths rows cols grid.now counts.old }
-    requires counting { Counting rows cols grid.now [] counts.old (rows * cols) }
-    requires outlets_found { found rows cols grid.now counts.old ≡ outlets }
-    ensures { Answered rows cols grid.now (ends (count_reply result) counts.new) }
+fn answer(grid: &Grid<'_>, counts: &mut [u32], outlets: usize) -> Result<Totals, CountError>
+    requires counting { CountingIn grid.now [] counts.old (cells_in grid.now) }
+    requires outlets_found { found_in grid.now counts.old ≡ outlets }
+    ensures { Answered grid.now.sheet.rows grid.now.sheet.cols grid.now.codes.now (ends (count_reply result) counts.new) }
 {
-    match first_left(grid, counts) {
-        Found::At(place) => {
-            let length = loop_length(rows, cols, grid, place);
-            clear(counts);
-            CountReply::Loop { place, length }
-        }
-        Found::Nothing => {
-            let land = land_number(grid);
-            let most = greatest(counts);
-            CountReply::Done {
-                land,
-                outlets,
-                greatest: most,
-            }
-        }
+    if let Some(place) = first_left(grid.codes, counts) {
+        let length = loop_length(grid, place);
+        clear(counts);
+        return Err(CountError::Loop { place, length });
     }
+    Ok(Totals {
+        land: land_number(grid.codes),
+        outlets,
+        greatest: greatest(counts),
+    })
 }

@@ -20,11 +20,19 @@ module _ (I J : ℕ) (bytes : List ℕ) (w : WellFormed I J bytes) (g : ℕ) (l 
   some_tile = omega (arith, tile_in I J (heights bytes J) (widths bytes) g l)
 
   -- it is the last whose first border number is not above g
-  pub tile_found : (t : ℕ) → t < I * J → first_of I J bytes t ≤ g → g < first_of I J bytes (t + 1) → t ≡ record_of bytes I J g
+  tile_found : (t : ℕ) → t < I * J → first_of I J bytes t ≤ g → g < first_of I J bytes (t + 1) → t ≡ record_of bytes I J g
   tile_found t lt from until =
       piece_unique (borders_in J (heights bytes J) (widths bytes)) t (record_of bytes I J g) g
       (from, omega (arith, first_next I J bytes w t lt, borders_are w t lt))
       (omega (arith, number_is I J (heights bytes J) (widths bytes) g l), omega (arith, number_is I J (heights bytes J) (widths bytes) g l, number_in_lem I J (heights bytes J) (widths bytes) g l))
+
+  -- the same told by the tile behind it
+  pub tile_before : (t : ℕ) → 0 < t → t ≤ I * J → first_of I J bytes (t - 1) ≤ g → g < first_of I J bytes t → t - 1 ≡ record_of bytes I J g
+  tile_before t some le from until = let e : t - 1 + 1 ≡ t = omega arith in tile_found (t - 1) (omega arith) from (omega (arith, ap (first_of I J bytes) e))
+
+  -- or by there being none behind it
+  pub tile_last : (t : ℕ) → t ≡ I * J → first_of I J bytes (t - 1) ≤ g → I * J - 1 ≡ record_of bytes I J g
+  tile_last t e from = tile_before (I * J) some_tile (omega arith) (omega (arith, ap (λ (u : ℕ). first_of I J bytes (u - 1)) e)) l
 
   module _ (table : List ℕ) (s : Table I J bytes table) where
     -- it is there

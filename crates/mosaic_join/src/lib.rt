@@ -2,7 +2,6 @@
 // a net, each fed by the exits that step onto border cells with that way, and its counts are their totals.
 #![tactic(auto)]
 
-mod gather;
 mod tiles;
 
 ghost use Rattle.std.specs.Prelude.{◌≡◌, length, replicate, []};
@@ -13,9 +12,9 @@ ghost use Rattle.mosaic_join.specs.Joining.{cleared, works, ends, join_reply, Jo
 ghost use Rattle.mosaic_read.specs.Said.{borders};
 ghost use Rattle.mosaic_net.specs.Method.{NetWritten};
 
-use crate::gather::gather;
 use crate::tiles::tile_of;
-use listed_net::{NetCounted, count_net};
+use listed_net::arrows::gather;
+use listed_net::{NetLoop, count_net};
 use mosaic_net::write_net;
 use mosaic_read::{ReadReply, read_records};
 use mosaic_step::table::first_border;
@@ -160,7 +159,7 @@ fn settle(
     ensures waiting_stays { length waiting.new ≡ borders tile_rows tile_cols records.now }
 {
     match count_net(feeds, totals, waiting) {
-        NetCounted::Loop { first, length } => {
+        Err(NetLoop { first, length }) => {
             let tile = tile_of(tile_rows, tile_cols, records, table, first);
             let border = first - first_border(table, tile);
             JoinReply::Loop {
@@ -169,8 +168,8 @@ fn settle(
                 exits: length,
             }
         }
-        NetCounted::Done => {
-            gather(pours, totals, incoming);
+        Ok(()) => {
+            gather(pours, incoming, |q| totals[q]);
             JoinReply::Done
         }
     }

@@ -13,12 +13,10 @@ pub fn tile_of(tile_rows: usize, tile_cols: usize, records: &[u8], table: &[u32]
     ensures { result ≡ record_of records.now tile_rows tile_cols g }
 {
     let tiles = tile_rows * tile_cols;
-    let mut t = 0;
-    while t + 1 < tiles {
-        if g < first_border(table, t + 1) {
-            return t;
+    for t in 1..tiles {
+        if g < first_border(table, t) {
+            return t - 1;
         }
-        t += 1;
     }
-    t
+    tiles - 1
 }

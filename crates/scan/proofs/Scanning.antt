@@ -15,9 +15,10 @@ use Rattle.flow.proofs.Scan.{looked_start, scan_start, scan_take, scan_next, sca
 use Rattle.flow.proofs.Sum.{test, on_true, on_false, on_ne, sum_none, sum_ext, sum_some}
 use Rattle.flow.proofs.Wait.{Waits, waits_past}
 use Rattle.sheet.specs.Leaves.{Laid}
-use Rattle.around.specs.Around.{LooksAround, one}
+use Rattle.around.specs.Around.{LooksAround}
+use Rattle.around.specs.Weight.{one}
 use Rattle.sheet.specs.Sheet.{land_at, dest_of, outlet_at, count_at, SheetNoLoop, FirstSheetLoop, SheetOnLoop}
-use Rattle.around.specs.declared.Around.TheVariants.{Ready}
+use Rattle.std.specs.Prelude.{Some}
 use Rattle.sheet.specs.Totals.{outlets}
 use Rattle.sheet.proofs.Dest.{dest_beyond, outlet_iff}
 use Rattle.sheet.proofs.Gather.{number_le}
@@ -92,7 +93,7 @@ module _ (rows cols : ℕ) (g m : List ℕ) where
         ))
 
     -- where there is no giver, all are ready
-    pub none_given : {t : ℕ} → t ≡ given (rows * cols) (dest_of rows cols g) one k → t ≡ 0 → LooksAround rows cols g c k (Ready 0)
+    pub none_given : {t : ℕ} → t ≡ given (rows * cols) (dest_of rows cols g) one k → t ≡ 0 → LooksAround rows cols g c k (Some 0)
     unfolding given
     none_given {t} e z =
         let none : (q : ℕ) → q < rows * cols → dest_of rows cols g q ≡ k → ⊥ = λ q l d. omega (arith, gives (rows * cols) (dest_of rows cols g) one k q l d) in (

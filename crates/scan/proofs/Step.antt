@@ -3,10 +3,8 @@
 use mathlib.Core.Bool.{Bool, true, false, not, ◌&&◌}
 use mathlib.Core.List.{List}
 use mathlib.Core.Logic.{inl, inr}
-use mathlib.Core.Path.{◌≡◌, refl, sym, ap, ◌∙◌}
-use Prim.Native.Nat.{ℕ, ◌+◌, ◌*◌, ◌<◌, ◌≤◌}
-use native.Mathlib.Nat.{mul-le-mul_right, suc-mul}
-use native.Mathlib.Numerals.{add-one}
+use mathlib.Core.Path.{◌≡◌, refl, sym, ◌∙◌}
+use Prim.Native.Nat.{ℕ, ◌+◌, ◌*◌, ◌<◌}
 use native.Mathlib.Omega.{arith}
 use lib.Dec.{eqb, ltb}
 use lib.ListN.{length, set, length-set}
@@ -16,16 +14,15 @@ use Rattle.flow.specs.Net.{on}
 use Rattle.flow.proofs.LookBound.{looked_bound}
 use Rattle.flow.proofs.LookStep.{look_step, zeros_fall}
 use Rattle.flow.proofs.Scan.{EndsWeigh}
-use Rattle.flow.proofs.Sum.{same, on_true, on_false, on_eq, on_ne, sum_change}
+use Rattle.flow.proofs.Sum.{same, on_true, on_false, on_ne, sum_change}
 use Rattle.flow.proofs.Bound.{on_le}
 use Rattle.flow.proofs.Wait.{waits_on, waits_stop, waits_less}
-use Rattle.sheet.specs.Leaves.{Laid, Cell, SpotOf}
+use Rattle.sheet.specs.Leaves.{Laid}
 use Rattle.around.specs.Around.{LooksAround}
 use Rattle.sheet.specs.Sheet.{land_at, dest_of, outlet_at, count_at}
-use Rattle.sheet.specs.declared.step.Spot.{Spot}
-use Rattle.around.specs.declared.Around.TheVariants.{Waiting, Ready}
+use Rattle.std.specs.Prelude.{Some, None}
 use Rattle.sheet.proofs.Dest.{from_land, to_land, dest_le, dest_beyond}
-use Rattle.scan.specs.Scan.{weight, RightSoFar, ToCount, Moved, Ends, found, left}
+use Rattle.scan.specs.Scan.{weight, RightSoFar, ToCount, Moved, found, left}
 
 -- ---- outlets that have their count
 
@@ -65,7 +62,7 @@ module _ (rows cols : ℕ) (g m c : List ℕ) (t : ℕ) (laid : Laid rows cols g
   none_yet = (to_count lt).1
 
   -- t waits for a giver: nothing moves, and the walk is over, though at no outlet
-  pub waited : (u : ℕ) → rows * cols < u → LooksAround rows cols g c t Waiting → Moved rows cols g m c c t u
+  pub waited : (u : ℕ) → rows * cols < u → LooksAround rows cols g c t None → Moved rows cols g m c c t u
   waited u h w = record {
     long = laid.counts_long;
     right = right;
@@ -79,7 +76,7 @@ module _ (rows cols : ℕ) (g m c : List ℕ) (t : ℕ) (laid : Laid rows cols g
   waited_less u h = omega (arith, on_false 1 (le-ltb u (rows * cols) (omega arith)), on_true 1 (lt-ltb t (rows * cols) lt))
 
   -- t's givers have their counts, s together: t gets these and what it adds itself
-  module _ (s own : ℕ) (own_is : own ≡ 1 + count_at m t) (around : LooksAround rows cols g c t (Ready s)) where
+  module _ (s own : ℕ) (own_is : own ≡ 1 + count_at m t) (around : LooksAround rows cols g c t (Some s)) where
     d : List ℕ
     d = set c t (s + own)
 
@@ -157,32 +154,3 @@ module _ (rows cols : ℕ) (g m : List ℕ) where
     to_count = y.to_count;
     outlets_on = omega (arith, x.outlets_on, y.outlets_on);
   }
-
--- ---- where steps end
-
--- a spot of the sheet
-pub spot_ends : {rows cols : ℕ} {s : Spot} {q : ℕ} → SpotOf rows cols s q → Ends rows cols s.row s.col
-spot_ends at = record { row_le = omega (arith, at.row_le); col_in = at.col_in; none_is = at.none_is }
-
--- the spot of a cell that has to wait
-pub wait_ends : (rows cols : ℕ) → 0 < cols → Ends rows cols (rows + 1) 0
-wait_ends rows cols h = record { row_le = omega arith; col_in = h; none_is = λ e. refl }
-
-pub wait_past : (rows cols : ℕ) → 0 < cols → rows * cols < (rows + 1) * cols + 0
-wait_past rows cols h = omega (arith, suc-mul rows cols, ap (λ (x : ℕ). x * cols) (add-one rows))
-
-module _ {rows cols r c : ℕ} (e : Ends rows cols r c) where
-  pub ends_over : rows ≤ r → rows * cols ≤ r * cols + c
-  ends_over l = omega (arith, mul-le-mul_right cols l)
-
-  -- at an outlet, or waiting
-  pub ends_none : r ≡ rows → ◌≡◌ {A = ℕ} 1 (on (eqb (r * cols + c) (rows * cols)) 1)
-  ends_none x = sym (on_eq (r * cols + c) (rows * cols) 1 (omega (arith, e.none_is x, ap (λ (y : ℕ). y * cols) x)))
-
-  pub ends_wait : rows ≤ r → (r ≡ rows → ⊥) → ◌≡◌ {A = ℕ} 0 (on (eqb (r * cols + c) (rows * cols)) 1)
-  ends_wait l x =
-      let y : r ≡ rows + 1 = omega (arith, e.row_le) in
-      sym (on_ne (r * cols + c) (rows * cols) 1 (λ z. omega (arith, wait_past rows cols (omega (arith, e.col_in)), ap (λ (k : ℕ). k * cols) y)))
-
-  pub ends_cell : {g d : List ℕ} → Laid rows cols g d → r < rows → Cell rows cols r c
-  ends_cell s l = record { rows_fit = s.rows_fit; cols_fit = s.cols_fit; row_in = l; col_in = e.col_in }

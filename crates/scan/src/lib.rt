@@ -2,178 +2,131 @@
 // counts; one loop a function. `more` tells what comes to each cell from elsewhere; beyond its end nothing does.
 #![tactic(auto)]
 
-ghost use Rattle.std.specs.Prelude.{◌≡◌, ◌+◌, ◌*◌, ◌<◌, ◌≤◌, replicate};
-ghost use Rattle.sheet.specs.Leaves.{Laid, Cell};
-ghost use Rattle.around.specs.Around.{LooksAround};
+mod onward;
+
+ghost use Rattle.std.specs.Prelude.{Some, ◌≡◌, ◌+◌, ◌*◌, ◌<◌, ◌≤◌, length, replicate};
+ghost use Rattle.sheet.specs.Grid.{OnGrid, cells_in, place_in};
 ghost use Rattle.sheet.specs.Sheet.{count_at};
-ghost use Rattle.scan.specs.Scan.{RightSoFar, WeightsFit, Counting, Moved, Walked, Ends, ToCount, found, left};
+ghost use Rattle.around.specs.Around.{LooksAround};
+ghost use Rattle.scan.specs.Grid.{RightIn, FitsIn, CountingIn, MovedIn, ToCountIn, WalkedIn, OnwardIn, found_in, left_in, gone};
 
-use around::{Around, giver_number, look_around};
-use sheet::compass::is_arrow;
-use sheet::step::{Spot, dest_at};
-
-// One more than a number, which 64 bits hold.
-fn one_more(n: u32) -> u64
-    ensures { (result ≡ 1 + n) × (result ≤ 4294967296) }
-{
-    n as u64 + 1
-}
+use crate::onward::Onward;
+use around::{giver_number, look_around};
+use sheet::grid::Grid;
+use sheet::step::Spot;
 
 // What the land cell at place p adds: 1 and what comes to it from elsewhere.
 fn own(more: &[u32], p: usize) -> u64
-    ensures { (result ≡ 1 + count_at more.now p) × (result ≤ 4294967296) }
+    ensures value { result ≡ 1 + count_at more.now p }
+    ensures most { result ≤ 4294967296 }
 {
-    if p < more.len() {
-        return one_more(more[p]);
-    }
-    1
-}
-
-// Writes the count of the cell at row r and column c, whose givers all have theirs and come to `sum`, and answers the spot that its water
-// goes to, or (rows, 0) where the cell is an outlet.
-fn settle(
-    rows: usize,
-    cols: usize,
-    grid: &[u8],
-    more: &[u32],
-    counts: &mut [u32],
-    r: usize,
-    c: usize,
-    sum: u64,
-) -> Spot
-    requires laid { Laid rows cols grid.now counts.old × Cell rows cols r c }
-    requires right_so_far { RightSoFar rows cols grid.now more.now counts.old }
-    requires to_count { ToCount rows cols grid.now counts.old (r * cols + c) }
-    requires looks_around { LooksAround rows cols grid.now counts.old (r * cols + c) (Around.Ready sum) }
-    ensures moved { Moved rows cols grid.now more.now counts.old counts.new (r * cols + c) (result.row * cols + result.col) }
-    ensures ends { Ends rows cols result.row result.col }
-    ensures col_bound { left rows cols counts.new (result.row * cols + result.col) < left rows cols counts.old (r * cols + c) }
-{
-    counts[r * cols + c] = (sum + own(more, r * cols + c)) as u32;
-    dest_at(rows, cols, grid, r, c)
-}
-
-// Water has come to the land cell at row r and column c: its count is written where all its givers have theirs. Answers the spot that the
-// water goes on to, (rows, 0) where it leaves, or (rows + 1, 0) where the cell has to wait.
-fn arrive(
-    rows: usize,
-    cols: usize,
-    grid: &[u8],
-    more: &[u32],
-    counts: &mut [u32],
-    r: usize,
-    c: usize,
-) -> Spot
-    requires laid { Laid rows cols grid.now counts.old × Cell rows cols r c }
-    requires right_so_far { RightSoFar rows cols grid.now more.now counts.old }
-    requires to_count { ToCount rows cols grid.now counts.old (r * cols + c) }
-    ensures moved { Moved rows cols grid.now more.now counts.old counts.new (r * cols + c) (result.row * cols + result.col) }
-    ensures ends { Ends rows cols result.row result.col }
-    ensures col_bound { left rows cols counts.new (result.row * cols + result.col) < left rows cols counts.old (r * cols + c) }
-{
-    match look_around(rows, cols, grid, counts, r, c) {
-        Around::Waiting => Spot {
-            row: rows + 1,
-            col: 0,
-        },
-        Around::Ready(sum) => settle(rows, cols, grid, more, counts, r, c, sum),
+    match more.get(p) {
+        Some(comes) => 1 + u64::from(*comes),
+        None => 1,
     }
 }
 
-// From the spot (r, c), where it is a cell, down while all givers have counts. Answers how many outlets the way ends at, 1 or 0.
-fn walk(
-    rows: usize,
-    cols: usize,
-    grid: &[u8],
-    more: &[u32],
-    counts: &mut [u32],
-    r: usize,
-    c: usize,
-) -> usize
-    requires laid { Laid rows cols grid.now counts.old × Ends rows cols r c }
-    requires right_so_far { RightSoFar rows cols grid.now more.now counts.old }
-    requires to_count { ToCount rows cols grid.now counts.old (r * cols + c) }
-    ensures { Walked rows cols grid.now more.now counts.old counts.new (r * cols + c) result }
+// Writes the count of a cell whose givers all have theirs and come to `sum`, and answers where its water goes.
+fn settle(grid: &Grid<'_>, more: &[u32], counts: &mut [u32], at: Spot, sum: u64) -> Onward
+    requires on_grid { OnGrid grid.now at }
+    requires counts_len { length counts.old ≡ cells_in grid.now }
+    requires right_so_far { RightIn grid.now more.now counts.old }
+    requires to_count { ToCountIn grid.now counts.old (place_in grid.now at) }
+    requires looks_around { LooksAround grid.now.sheet.rows grid.now.sheet.cols grid.now.codes.now counts.old (place_in grid.now at) (Some sum) }
+    ensures moved { MovedIn grid.now more.now counts.old counts.new (place_in grid.now at) (gone grid.now result) }
+    ensures onward { OnwardIn grid.now result }
+    ensures less { left_in grid.now counts.new (gone grid.now result) < left_in grid.now counts.old (place_in grid.now at) }
 {
-    let mut row = r;
-    let mut col = c;
-    while row < rows {
-        let next = arrive(rows, cols, grid, more, counts, row, col);
-        row = next.row;
-        col = next.col;
+    let p = grid.sheet.place(at);
+    counts[p] = (sum + own(more, p)) as u32;
+    match grid.next(at) {
+        Some(next) => Onward::To(next),
+        None => Onward::Out,
     }
-    if row == rows {
-        return 1;
-    }
-    0
 }
 
-// The scan comes to row r and column c: a land cell without givers gets its count, and the walk goes down from it. Answers how many outlets
+// Water has come to a land cell: its count is written where all its givers have theirs.
+fn arrive(grid: &Grid<'_>, more: &[u32], counts: &mut [u32], at: Spot) -> Onward
+    requires on_grid { OnGrid grid.now at }
+    requires counts_len { length counts.old ≡ cells_in grid.now }
+    requires right_so_far { RightIn grid.now more.now counts.old }
+    requires to_count { ToCountIn grid.now counts.old (place_in grid.now at) }
+    ensures moved { MovedIn grid.now more.now counts.old counts.new (place_in grid.now at) (gone grid.now result) }
+    ensures onward { OnwardIn grid.now result }
+    ensures less { left_in grid.now counts.new (gone grid.now result) < left_in grid.now counts.old (place_in grid.now at) }
+{
+    match look_around(grid, counts, at) {
+        Some(sum) => settle(grid, more, counts, at, sum),
+        None => Onward::Waits,
+    }
+}
+
+// Goes down while all givers have counts. Answers how many outlets the way ends at, 1 or 0.
+fn walk(grid: &Grid<'_>, more: &[u32], counts: &mut [u32], from: Onward) -> usize
+    requires onward { OnwardIn grid.now from }
+    requires counts_len { length counts.old ≡ cells_in grid.now }
+    requires right_so_far { RightIn grid.now more.now counts.old }
+    requires to_count { ToCountIn grid.now counts.old (gone grid.now from) }
+    ensures { WalkedIn grid.now more.now counts.old counts.new (gone grid.now from) result }
+{
+    let mut onward = from;
+    while let Onward::To(at) = onward {
+        onward = arrive(grid, more, counts, at);
+    }
+    match onward {
+        Onward::Out => 1,
+        _ => 0,
+    }
+}
+
+// The scan comes to a cell: where that is land without givers it gets its count, and the walk goes down from it. Answers how many outlets
 // were counted.
-fn scan_place(
-    rows: usize,
-    cols: usize,
-    grid: &[u8],
-    more: &[u32],
-    counts: &mut [u32],
-    r: usize,
-    c: usize,
-) -> usize
-    requires laid { Laid rows cols grid.now counts.old × Cell rows cols r c }
-    requires counting { Counting rows cols grid.now more.now counts.old (r * cols + c) }
-    ensures counting_after { Counting rows cols grid.now more.now counts.new (r * cols + c + 1) }
-    ensures counts_after { found rows cols grid.now counts.new ≡ found rows cols grid.now counts.old + result }
+fn scan_place(grid: &Grid<'_>, more: &[u32], counts: &mut [u32], at: Spot) -> usize
+    requires on_grid { OnGrid grid.now at }
+    requires counts_len { length counts.old ≡ cells_in grid.now }
+    requires counting { CountingIn grid.now more.now counts.old (place_in grid.now at) }
+    ensures counting_after { CountingIn grid.now more.now counts.new (place_in grid.now at + 1) }
+    ensures counts_after { found_in grid.now counts.new ≡ found_in grid.now counts.old + result }
 {
-    let p = r * cols + c;
+    let p = grid.sheet.place(at);
     if counts[p] != 0 {
         return 0;
     }
-    if !is_arrow(grid[p]) {
+    if !grid.is_land(p) {
         return 0;
     }
-    if giver_number(rows, cols, grid, r, c) != 0 {
+    if giver_number(grid, at) != 0 {
         return 0;
     }
-    let next = settle(rows, cols, grid, more, counts, r, c, 0);
-    walk(rows, cols, grid, more, counts, next.row, next.col)
+    let next = settle(grid, more, counts, at, 0);
+    walk(grid, more, counts, next)
 }
 
-// Scans row r. Answers how many outlets were counted.
-fn scan_row(
-    rows: usize,
-    cols: usize,
-    grid: &[u8],
-    more: &[u32],
-    counts: &mut [u32],
-    r: usize,
-) -> usize
-    requires laid { Laid rows cols grid.now counts.old × (r < rows) }
-    requires counting { Counting rows cols grid.now more.now counts.old (r * cols) }
-    ensures counting_after { Counting rows cols grid.now more.now counts.new (r * cols + cols) }
-    ensures counts_after { found rows cols grid.now counts.new ≡ found rows cols grid.now counts.old + result }
+// Scans a row. Answers how many outlets were counted.
+fn scan_row(grid: &Grid<'_>, more: &[u32], counts: &mut [u32], row: usize) -> usize
+    requires on_grid { row < grid.now.sheet.rows }
+    requires counts_len { length counts.old ≡ cells_in grid.now }
+    requires counting { CountingIn grid.now more.now counts.old (row * grid.now.sheet.cols) }
+    ensures counting_after { CountingIn grid.now more.now counts.new (row * grid.now.sheet.cols + grid.now.sheet.cols) }
+    ensures counts_after { found_in grid.now counts.new ≡ found_in grid.now counts.old + result }
 {
-    let mut n: usize = 0;
-    let mut c = 0;
-    while c < cols {
-        n += scan_place(rows, cols, grid, more, counts, r, c);
-        c += 1;
+    let mut outlets: usize = 0;
+    for col in 0..grid.sheet.cols {
+        outlets += scan_place(grid, more, counts, Spot { row, col });
     }
-    n
+    outlets
 }
 
 // Scans the cells by place, from cleared counts. Answers how many outlets were counted.
-pub fn scan(rows: usize, cols: usize, grid: &[u8], more: &[u32], counts: &mut [u32]) -> usize
-    requires laid { Laid rows cols grid.now counts.old }
-    requires counts_clear { counts.old ≡ replicate (rows * cols) 0 }
-    requires weights_fit { WeightsFit rows cols grid.now more.now }
-    ensures counting { Counting rows cols grid.now more.now counts.new (rows * cols) }
-    ensures counts_after { found rows cols grid.now counts.new ≡ result }
+pub fn scan(grid: &Grid<'_>, more: &[u32], counts: &mut [u32]) -> usize
+    requires counts_clear { counts.old ≡ replicate (cells_in grid.now) 0 }
+    requires weights_fit { FitsIn grid.now more.now }
+    ensures counting { CountingIn grid.now more.now counts.new (cells_in grid.now) }
+    ensures counts_after { found_in grid.now counts.new ≡ result }
 {
-    let mut n: usize = 0;
-    let mut r = 0;
-    while r < rows {
-        n += scan_row(rows, cols, grid, more, counts, r);
-        r += 1;
+    let mut outlets: usize = 0;
+    for row in 0..grid.sheet.rows {
+        outlets += scan_row(grid, more, counts, row);
     }
-    n
+    outlets
 }

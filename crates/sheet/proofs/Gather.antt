@@ -47,11 +47,11 @@ number_none n passes e p l = elim (test (passes p)) [
 ]
 
 -- the items of a list that pass a test are as many as the places at which one stands
-module _ (passes : ℕ → Bool) (beyond : ℕ) where
-  abbrev items : List ℕ → ℕ
+module _ {X : Type 0} (passes : X → Bool) (beyond : X) where
+  abbrev items : List X → ℕ
   items xs = number (length xs) (λ i. passes (get_or xs i beyond))
 
-  one_item : (x : ℕ) (xs : List ℕ) → items (x ∷ xs) ≡ cond (passes x) (1 + items xs) (items xs)
+  one_item : (x : X) (xs : List X) → items (x ∷ xs) ≡ cond (passes x) (1 + items xs) (items xs)
   one_item x xs =
       let first = sum_first (length xs) (λ i. on (passes (get_or (x ∷ xs) i beyond)) 1) in
       elim (test (passes x)) [
@@ -63,7 +63,7 @@ module _ (passes : ℕ → Bool) (beyond : ℕ) where
   unfolding sum
   no_item = λ i. 0
 
-  pub number_items : (xs : List ℕ) → count_by passes xs ≡ number (length xs) (λ i. passes (get_or xs i beyond))
+  pub number_items : (xs : List X) → count_by passes xs ≡ number (length xs) (λ i. passes (get_or xs i beyond))
   number_items xs = sym (is_count_by items passes no_item one_item xs)
 
 -- the greatest of n + 1 numbers is the first, or the greatest of those behind it

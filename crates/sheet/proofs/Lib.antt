@@ -10,3 +10,4 @@ pub mod Passes
 pub mod Given
 pub mod Change
 pub mod Unique
+pub mod Grids

@@ -1,10 +1,16 @@
 -- A sheet with its codes, as it is handed on: its cells, the place of a row and a column, and its net.
 -- Assumes nothing.
-use Rattle.std.specs.Prelude.{Bool, Option, Some, None, ◌≡◌, ℕ, ◌*◌, ◌<◌}
+use Rattle.std.specs.Prelude.{Bool, List, length, Option, Some, None, ◌≡◌, ℕ, ◌*◌, ◌<◌}
 use Rattle.sheet.specs.Leaves.{OnSheet, spot_place}
 use Rattle.sheet.specs.Sheet.{land_at, dest_of}
 use Rattle.sheet.specs.declared.grid.Grid.{Grid}
+use Rattle.sheet.specs.declared.shape.Shape.{Shape}
 use Rattle.sheet.specs.declared.step.Spot.{Spot}
+
+-- what making a grid answers: the grid, or that there are not as many codes as the sheet has cells
+abbrev pub MakesGrid : Shape 4096 → List ℕ → Option Grid → Type 0
+MakesGrid sheet codes (Some g) = (g.sheet ≡ sheet) × (g.codes.now ≡ codes)
+MakesGrid sheet codes None = length codes ≡ sheet.rows * sheet.cols → ⊥
 
 -- how many cells it has
 abbrev pub cells_in : Grid → ℕ

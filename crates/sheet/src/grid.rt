@@ -15,8 +15,27 @@ pub struct Grid<'a> {
 
 impl<'a> Grid<'a> {
     ghost use Rattle.std.specs.Prelude.{◌<◌};
-    ghost use Rattle.sheet.specs.Grid.{OnGrid, LeadsTo, dest_in, place_in, cells_in};
+    ghost use Rattle.sheet.specs.Grid.{MakesGrid, OnGrid, LeadsTo, land_in, dest_in, place_in, cells_in};
     ghost use Rattle.sheet.specs.Leaves.{SpotOf};
+
+    // The grid, where there are as many codes as the sheet has cells.
+    pub fn new(sheet: Sheet, codes: &'a [u8]) -> Option<Self>
+        ensures { MakesGrid sheet codes.now result }
+    {
+        if codes.len() == sheet.cells() {
+            Some(Grid { sheet, codes })
+        } else {
+            None
+        }
+    }
+
+    // Whether place p is land.
+    pub fn is_land(&self, p: usize) -> bool
+        requires { p < cells_in self.now }
+        ensures { result ≡ land_in self.now p }
+    {
+        is_arrow(self.codes[p])
+    }
 
     // The row and the column of the land cell that an arrow steps onto, where it steps onto one. Nothing is divided.
     pub fn next(&self, at: Spot) -> Option<Spot>

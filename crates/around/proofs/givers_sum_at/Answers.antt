@@ -7,6 +7,6 @@ use Rattle.around.proofs.givers_sum_at.Goals as goal
 
 pub returns : goal.returns
 returns c =
-    let a = c.args in
-    givers_rest a.rows a.cols a.grid.now a.counts.now (a.r * a.cols + a.c) (cell_place c.requires.cell) c.requires.grid_len.0 c.requires.on_land (λ q. (c.shared_slice_known-2-1.given q).fits)
+    let d = c.args.grid.now in
+    givers_rest d.sheet.rows d.sheet.cols d.codes.now c.args.counts.now (c.args.at.row * d.sheet.cols + c.args.at.col) (cell_place c.requires.on_grid) d.long c.requires.on_land (λ q. (c.type_inv.counts q).fits)
     c.neighbours.ensures

@@ -1,20 +1,20 @@
 -- `around::inner` meets its contract: the eight neighbours stand at fixed distances.
 -- Assumes nothing.
 use mathlib.Core.Path.{◌∙◌}
-use Rattle.around.specs.Around.{weighed}
 use Rattle.around.proofs.Weigh.{sum_eight}
 use Rattle.around.proofs.Inside.{seen0, seen1, seen2, seen3, seen4, seen5, seen6, seen7}
 use Rattle.around.proofs.inner.Goals as goal
 
 pub returns : goal.returns
-returns c =
-    let a = c.args in
+returns g c =
+    let d = c.args.grid.now in
+    let w = g.W.Weight.weight c.args.weight.now in
     sum_eight _
-    (c.seen-east.ensures.0 ∙ seen0 a.rows a.cols a.grid.now (weighed a.counts.now) a.p c.requires.inner)
-    (c.seen-south_east.ensures.0 ∙ seen1 a.rows a.cols a.grid.now (weighed a.counts.now) a.p c.requires.inner)
-    (c.seen-south.ensures.0 ∙ seen2 a.rows a.cols a.grid.now (weighed a.counts.now) a.p c.requires.inner)
-    (c.seen-south_west.ensures.0 ∙ seen3 a.rows a.cols a.grid.now (weighed a.counts.now) a.p c.requires.inner)
-    (c.seen-west.ensures.0 ∙ seen4 a.rows a.cols a.grid.now (weighed a.counts.now) a.p c.requires.inner)
-    (c.seen-north_west.ensures.0 ∙ seen5 a.rows a.cols a.grid.now (weighed a.counts.now) a.p c.requires.inner)
-    (c.seen-north.ensures.0 ∙ seen6 a.rows a.cols a.grid.now (weighed a.counts.now) a.p c.requires.inner)
-    (c.seen-north_east.ensures.0 ∙ seen7 a.rows a.cols a.grid.now (weighed a.counts.now) a.p c.requires.inner)
+    (c.seen-east.ensures.value ∙ seen0 d.sheet.rows d.sheet.cols d.codes.now w c.args.p c.requires.inner)
+    (c.seen-south_east.ensures.value ∙ seen1 d.sheet.rows d.sheet.cols d.codes.now w c.args.p c.requires.inner)
+    (c.seen-south.ensures.value ∙ seen2 d.sheet.rows d.sheet.cols d.codes.now w c.args.p c.requires.inner)
+    (c.seen-south_west.ensures.value ∙ seen3 d.sheet.rows d.sheet.cols d.codes.now w c.args.p c.requires.inner)
+    (c.seen-west.ensures.value ∙ seen4 d.sheet.rows d.sheet.cols d.codes.now w c.args.p c.requires.inner)
+    (c.seen-north_west.ensures.value ∙ seen5 d.sheet.rows d.sheet.cols d.codes.now w c.args.p c.requires.inner)
+    (c.seen-north.ensures.value ∙ seen6 d.sheet.rows d.sheet.cols d.codes.now w c.args.p c.requires.inner)
+    (c.seen-north_east.ensures.value ∙ seen7 d.sheet.rows d.sheet.cols d.codes.now w c.args.p c.requires.inner)

@@ -5,14 +5,14 @@ use Rattle.sheet.proofs.Spots.{cell_place}
 use Rattle.around.proofs.Weigh.{looks_ready, looks_waiting}
 use Rattle.around.proofs.look_around.Goals as goal
 
-pub returns-then-all-lt1099511627776 : goal.returns-then-all-lt1099511627776
-returns-then-all-lt1099511627776 c =
-    let a = c.args in
-    looks_ready a.rows a.cols a.grid.now a.counts.now (a.r * a.cols + a.c) (cell_place c.requires.cell) c.requires.grid_len.0 c.requires.on_land (λ q. (c.shared_slice_known-2-1.given q).fits)
-    c.neighbours-all.ensures c.if-all-lt1099511627776.true
+pub returns-then-all-lt-NO_COUNT : goal.returns-then-all-lt-NO_COUNT
+returns-then-all-lt-NO_COUNT c =
+    let d = c.args.grid.now in
+    looks_ready d.sheet.rows d.sheet.cols d.codes.now c.args.counts.now (c.args.at.row * d.sheet.cols + c.args.at.col) (cell_place c.requires.on_grid) d.long c.requires.on_land (λ q. (c.type_inv.counts q).fits)
+    c.neighbours-all.ensures c.if-all-lt-NO_COUNT.true
 
-pub returns : goal.returns
-returns c =
-    let a = c.args in
-    looks_waiting a.rows a.cols a.grid.now a.counts.now (a.r * a.cols + a.c) (cell_place c.requires.cell) c.requires.grid_len.0 c.requires.on_land (λ q. (c.shared_slice_known-2-1.given q).fits)
-    c.neighbours-all.ensures c.if-all-lt1099511627776.false
+pub returns-else-all-lt-NO_COUNT : goal.returns-else-all-lt-NO_COUNT
+returns-else-all-lt-NO_COUNT c =
+    let d = c.args.grid.now in
+    looks_waiting d.sheet.rows d.sheet.cols d.codes.now c.args.counts.now (c.args.at.row * d.sheet.cols + c.args.at.col) (cell_place c.requires.on_grid) d.long c.requires.on_land (λ q. (c.type_inv.counts q).fits)
+    c.neighbours-all.ensures c.if-all-lt-NO_COUNT.false

@@ -1,19 +1,9 @@
 -- `around::seen_from` meets its contract: beyond the sheet no arrow is found.
 -- Assumes nothing.
 use native.Mathlib.Omega.{arith}
-use Rattle.around.specs.Around.{weighed}
-use Rattle.around.proofs.Weigh.{adds_from, adds_beyond}
+use Rattle.around.proofs.Weigh.{adds_beyond}
 use Rattle.around.proofs.seen_from.Goals as goal
 
-pub returns-then-q-none : goal.returns-then-q-none
-returns-then-q-none c =
-    let a = c.args in
-    (adds_from a.grid.now (weighed a.counts.now) a.code c.beside-q.ensures c.seen.ensures.0, c.seen.ensures.1)
-
-pub returns : goal.returns
-returns c =
-    let a = c.args in (
-      adds_from a.grid.now (weighed a.counts.now) a.code c.beside-q.ensures
-          (adds_beyond a.grid.now (weighed a.counts.now) c.beside-q.result a.code (omega arith) c.requires.both_arrows.1),
-      omega arith,
-    )
+pub returns-in-None-clause-value : goal.returns-in-None-clause-value
+returns-in-None-clause-value g c =
+    adds_beyond c.args.grid.now.codes.now (g.W.Weight.weight c.args.weight.now) _ c.args.code (omega (arith, c.in-None.ensures, c.args.grid.now.long)) c.requires.both_arrows.1

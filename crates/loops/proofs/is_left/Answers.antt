@@ -1,11 +1,15 @@
 -- `loops::is_left` meets its contract: a law of `left_at` for each way through it.
 -- Assumes nothing.
-use native.Mathlib.Omega.{arith}
-use Rattle.loops.proofs.Left.{left_counted, left_land}
+use mathlib.Core.Path.{sym, ◌∙◌}
+use Rattle.loops.proofs.Left.{left_land, left_absent}
 use Rattle.loops.proofs.is_left.Goals as goal
 
-pub returns-then-counts-p-ne0 : goal.returns-then-counts-p-ne0
-returns-then-counts-p-ne0 c = let a = c.args in left_counted a.grid.now a.counts.now a.p c.if-counts-p-ne0.true
+pub returns-then-is_arrow : goal.returns-then-is_arrow
+returns-then-is_arrow c =
+    let a = c.args in
+    left_land a.grid.now a.counts.now a.p c.requires.0 (sym c.is_arrow.ensures ∙ c.if-is_arrow.true)
 
-pub returns : goal.returns
-returns c = let a = c.args in left_land a.grid.now a.counts.now a.p (omega arith) (omega arith) c.is_arrow-land.ensures
+pub returns-else-is_arrow : goal.returns-else-is_arrow
+returns-else-is_arrow c =
+    let a = c.args in
+    left_absent a.grid.now a.counts.now a.p c.requires.0 c.is_arrow.ensures c.if-is_arrow.false

@@ -1,67 +1,67 @@
 -- `loops::loop_length` meets its contract: walking round once counts the loop.
 -- Assumes nothing.
-use mathlib.Core.Path.{sym, ◌∙◌}
+use mathlib.Core.Path.{◌≡◌, sym, ap, ◌∙◌}
+use native.Mathlib.Numerals.{add-one}
 use native.Mathlib.Omega.{arith}
-use Prim.Native.Nat.{suc, ◌*◌}
+use Prim.Native.Nat.{ℕ, suc}
 use borrow.Author.Count.{below_more}
+use Rattle.std.specs.Prelude.{Some}
 use Rattle.flow.specs.Net.{steps}
 use Rattle.flow.proofs.LoopLength.{round_length}
-use Rattle.flow.proofs.Round.{round_ends, round_inside, round_on}
-use Rattle.sheet.specs.Sheet.{dest_of}
+use Rattle.flow.proofs.Round.{round_ends, round_inside}
+use Rattle.flow.proofs.Walk.{steps_suc}
+use Rattle.sheet.specs.Grid.{cells_in, dest_in, LeadsTo}
 use Rattle.sheet.proofs.Dest.{dest_beyond}
-use Rattle.sheet.proofs.Places.{laid_area, place_of}
+use Rattle.sheet.proofs.Grids.{grid_laid, leads_on}
+use Rattle.sheet.proofs.Places.{laid_area}
 use Rattle.loops.proofs.loop_length.Goals as goal
-
-pub dest-p-requires : goal.dest-p-requires
-dest-p-requires c = record { place = place_of c.requires.laid c.requires.sheet_on_loop.0; grid_len = c.requires.laid.grid_long }
 
 pub loop-p-init : goal.loop-p-init
 unfolding steps
-loop-p-init c = (c.dest-p.ensures, λ i h e. omega arith)
+loop-p-init c = record { here = λ i. c.args.start; not_yet = λ i h e. omega arith }
 
-pub dest-p-requires-in-loop-p : goal.dest-p-requires-in-loop-p
-dest-p-requires-in-loop-p c =
-    let a = c.args in
-    let to = dest_of a.rows a.cols a.grid.now in
-    let out = dest_beyond a.rows a.cols a.grid.now c.requires.laid.grid_long in
-    record {
-      place = place_of c.requires.laid (omega (arith, c.loop-p.invariant.0, round_inside (a.rows * a.cols) to out a.start c.requires.sheet_on_loop (suc c.loop-p.further)));
-      grid_len = c.requires.laid.grid_long;
-    }
+pub dest-requires : goal.dest-requires
+dest-requires c =
+    let d = c.args.grid.now in
+    let out = dest_beyond d.sheet.rows d.sheet.cols d.codes.now d.long in
+    omega (arith, c.loop-p.invariant.here, round_inside (cells_in d) (dest_in d) out c.args.start c.requires c.loop-p.length)
 
-pub overflow_add-further : goal.overflow_add-further
-overflow_add-further c =
-    let a = c.args in
-    let to = dest_of a.rows a.cols a.grid.now in
-    let out = dest_beyond a.rows a.cols a.grid.now c.requires.laid.grid_long in
-    omega (arith, laid_area c.requires.laid, round_ends (a.rows * a.cols) to out a.start c.requires.sheet_on_loop c.loop-p.further c.loop-p.invariant.1)
+-- one step on
+on : (to : ℕ → ℕ) (k start : ℕ) {p q : ℕ} → p ≡ steps to k start → q ≡ to p → q ≡ steps to (suc k) start
+on to k start e d = d ∙ ap to e ∙ sym (steps_suc to k start)
+
+pub unwrap-p-requires : goal.unwrap-p-requires
+unwrap-p-requires c =
+    let d = c.args.grid.now in
+    let out = dest_beyond d.sheet.rows d.sheet.cols d.codes.now d.long in
+    leads_on _ c.dest.ensures (rw (ap (dest_in d) c.loop-p.invariant.here ∙ sym (steps_suc (dest_in d) c.loop-p.length c.args.start)) (round_inside (cells_in d) (dest_in d) out c.args.start c.requires (suc c.loop-p.length)))
+
+pub overflow_add-length : goal.overflow_add-length
+overflow_add-length c =
+    let d = c.args.grid.now in
+    let out = dest_beyond d.sheet.rows d.sheet.cols d.codes.now d.long in
+    omega (arith, laid_area (grid_laid d d.long), round_ends (cells_in d) (dest_in d) out c.args.start c.requires c.loop-p.length c.loop-p.invariant.not_yet)
+
+pub returns-then-p-start : goal.returns-then-p-start
+returns-then-p-start c =
+    let d = c.args.grid.now in
+    let out = dest_beyond d.sheet.rows d.sheet.cols d.codes.now d.long in
+    let led : LeadsTo (cells_in d) (dest_in d c.loop-p.p) (Some c.unwrap-p.result) = rw c.unwrap-p.ensures at c.dest.ensures in
+    let here = on (dest_in d) c.loop-p.length c.args.start c.loop-p.invariant.here led.0 in
+    omega (arith, add-one c.loop-p.length, round_length (cells_in d) (dest_in d) out c.loop-p.length c.args.start c.requires.0 (sym here ∙ c.if-p-start.true) c.loop-p.invariant.not_yet)
 
 pub loop-p-smaller : goal.loop-p-smaller
 loop-p-smaller c =
-    let a = c.args in
-    let to = dest_of a.rows a.cols a.grid.now in
-    let out = dest_beyond a.rows a.cols a.grid.now c.requires.laid.grid_long in
-    omega (arith, round_ends (a.rows * a.cols) to out a.start c.requires.sheet_on_loop c.loop-p.further c.loop-p.invariant.1)
+    let d = c.args.grid.now in
+    let out = dest_beyond d.sheet.rows d.sheet.cols d.codes.now d.long in
+    omega (arith, round_ends (cells_in d) (dest_in d) out c.args.start c.requires c.loop-p.length c.loop-p.invariant.not_yet)
 
 pub loop-p-preserved : goal.loop-p-preserved
 loop-p-preserved c =
-    let a = c.args in
-    let to = dest_of a.rows a.cols a.grid.now in
-    let out = dest_beyond a.rows a.cols a.grid.now c.requires.laid.grid_long in (
-      round_on to a.start c.loop-p.further c.loop-p.invariant.0 c.dest-p-in-loop-p.ensures,
-      below_more _ _ c.loop-p.invariant.1 (λ e. c.loop-p-test.true (c.loop-p.invariant.0 ∙ e)),
-    )
-
-pub overflow_add-result : goal.overflow_add-result
-overflow_add-result c =
-    let a = c.args in
-    let to = dest_of a.rows a.cols a.grid.now in
-    let out = dest_beyond a.rows a.cols a.grid.now c.requires.laid.grid_long in
-    omega (arith, laid_area c.requires.laid, round_ends (a.rows * a.cols) to out a.start c.requires.sheet_on_loop c.loop-p.further c.loop-p.invariant.1)
-
-pub returns : goal.returns
-returns c =
-    let a = c.args in
-    let to = dest_of a.rows a.cols a.grid.now in
-    let out = dest_beyond a.rows a.cols a.grid.now c.requires.laid.grid_long in
-    omega (arith, round_length (a.rows * a.cols) to out c.loop-p.further a.start c.requires.sheet_on_loop.0 (sym c.loop-p.invariant.0 ∙ c.loop-p-test.false) c.loop-p.invariant.1)
+    let d = c.args.grid.now in
+    let led : LeadsTo (cells_in d) (dest_in d c.loop-p.p) (Some c.unwrap-p.result) = rw c.unwrap-p.ensures at c.dest.ensures in
+    let here = on (dest_in d) c.loop-p.length c.args.start c.loop-p.invariant.here led.0 in
+    record {
+      here = here ∙ ap (λ (m : ℕ). steps (dest_in d) m c.args.start) (sym (add-one c.loop-p.length));
+      not_yet = below_more _ _ c.loop-p.invariant.not_yet (λ e. c.if-p-start.false (here ∙ e));
+    }

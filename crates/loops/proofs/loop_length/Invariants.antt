@@ -1,12 +1,12 @@
--- The loops of `loops::loop_length`: what they keep, and what falls.
+-- The loop of `loops::loop_length`: what it keeps, and what falls.
+use Prim.Native.Nat.{ℕ, suc, ◌-◌, ◌<◌}
 use mathlib.Core.Path.{◌≡◌}
-use Prim.Native.Nat.{ℕ, suc, ◌-◌, ◌*◌, ◌<◌}
 use Rattle.flow.specs.Net.{steps}
-use Rattle.sheet.specs.Sheet.{dest_of}
+use Rattle.sheet.specs.Grid.{cells_in, dest_in}
 use Rattle.loops.proofs.loop_length.Given as goal
 
 abbrev pub invariant-loop-p : goal.invariant-loop-p
-invariant-loop-p l = (l.p ≡ steps (dest_of l.rows l.cols l.grid) (suc l.further) l.start) × ((i : ℕ) → i < l.further → steps (dest_of l.rows l.cols l.grid) (suc i) l.start ≡ l.start → ⊥)
+invariant-loop-p l = record { here : l.p ≡ steps (dest_in l.grid) l.length l.start; not_yet : (i : ℕ) → i < l.length → steps (dest_in l.grid) (suc i) l.start ≡ l.start → ⊥ }
 
 abbrev pub decreases-loop-p : goal.decreases-loop-p
-decreases-loop-p l = l.rows * l.cols - l.further
+decreases-loop-p l = cells_in l.grid - l.length

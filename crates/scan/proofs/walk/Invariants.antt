@@ -1,10 +1,9 @@
--- The loops of `scan::walk`: what they keep, and what falls.
-use Prim.Native.Nat.{◌+◌, ◌*◌}
-use Rattle.scan.specs.Scan.{Moved, Ends, left}
+-- The loop of `scan::walk`: what it keeps, and what falls.
+use Rattle.scan.specs.Grid.{MovedIn, OnwardIn, left_in, gone}
 use Rattle.scan.proofs.walk.Given as goal
 
-abbrev pub invariant-loop-row : goal.invariant-loop-row
-invariant-loop-row l = Moved l.rows l.cols l.grid l.more l.initial.counts l.counts (l.r * l.cols + l.c) (l.row * l.cols + l.col) × Ends l.rows l.cols l.row l.col
+abbrev pub invariant-loop-onward : goal.invariant-loop-onward
+invariant-loop-onward l = record { moved : MovedIn l.grid l.more l.initial.counts l.counts (gone l.grid l.initial.onward) (gone l.grid l.onward); onward : OnwardIn l.grid l.onward }
 
-abbrev pub decreases-loop-row : goal.decreases-loop-row
-decreases-loop-row l = left l.rows l.cols l.counts (l.row * l.cols + l.col)
+abbrev pub decreases-loop-onward : goal.decreases-loop-onward
+decreases-loop-onward l = left_in l.grid l.counts (gone l.grid l.onward)
