@@ -8,7 +8,7 @@ use Rattle.mosaic.specs.Layout.{borders_in, number_in_tile}
 use Rattle.mosaic.proofs.Borders.{tile_in, number_is, number_in_lem}
 use Rattle.mosaic.proofs.Pieces.{piece_unique}
 use Rattle.mosaic_read.specs.Records.{heights, widths}
-use Rattle.mosaic_step.specs.Table.{WellFormed, Table, first_in}
+use Rattle.mosaic_step.specs.Table.{WellFormed}
 use Rattle.mosaic_step.proofs.Known.{borders_are}
 use Rattle.mosaic_read.specs.Said.{borders, record_of, number_in}
 use Rattle.mosaic_net.specs.Method.{first_of}
@@ -34,16 +34,15 @@ module _ (I J : ℕ) (bytes : List ℕ) (w : WellFormed I J bytes) (g : ℕ) (l 
   pub tile_last : (t : ℕ) → t ≡ I * J → first_of I J bytes (t - 1) ≤ g → I * J - 1 ≡ record_of bytes I J g
   tile_last t e from = tile_before (I * J) some_tile (omega arith) (omega (arith, ap (λ (u : ℕ). first_of I J bytes (u - 1)) e)) l
 
-  module _ (table : List ℕ) (s : Table I J bytes table) where
-    -- it is there
-    pub tile_there : {t : ℕ} → t ≡ record_of bytes I J g → t < I * J
-    tile_there e = omega (arith, tile_in I J (heights bytes J) (widths bytes) g l)
+  -- it is there
+  pub tile_there : {t : ℕ} → t ≡ record_of bytes I J g → t < I * J
+  tile_there e = omega (arith, tile_in I J (heights bytes J) (widths bytes) g l)
 
-    -- and its first border number is not above g
-    pub first_le : {t first : ℕ} → t ≡ record_of bytes I J g → first ≡ first_in table t → first ≤ g
-    first_le {t} e f = omega (arith, f, s.firsts t (tile_there e), ap (first_of I J bytes) e, number_is I J (heights bytes J) (widths bytes) g l)
+  -- its first border number is not above g
+  pub first_le : {t first : ℕ} → t ≡ record_of bytes I J g → first ≡ first_of I J bytes t → first ≤ g
+  first_le {t} e f = omega (arith, f, ap (first_of I J bytes) e, number_is I J (heights bytes J) (widths bytes) g l)
 
-    -- what is left is the number in the tile
-    pub number_left : {t first : ℕ} → t ≡ record_of bytes I J g → first ≡ first_in table t → g - first ≡ number_in bytes I J g
-    unfolding number_in_tile
-    number_left {t} {first} e f = ap (λ (x : ℕ). g - x) (f ∙ s.firsts t (tile_there e) ∙ ap (first_of I J bytes) e)
+  -- what is left is the number in the tile
+  pub number_left : {t first : ℕ} → t ≡ record_of bytes I J g → first ≡ first_of I J bytes t → g - first ≡ number_in bytes I J g
+  unfolding number_in_tile
+  number_left {t} {first} e f = ap (λ (x : ℕ). g - x) (f ∙ ap (first_of I J bytes) e)
