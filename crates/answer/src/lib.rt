@@ -6,7 +6,7 @@ ghost use Rattle.answer.specs.Answer.{Answers, Buffers};
 ghost use Rattle.answer.specs.Parts.{Lent, Tells, TellsText};
 ghost use Rattle.writer.specs.Parts.{Room};
 
-use count::{CountError, Totals, count};
+use count::{CountError, count};
 use sheet::shape::Shape;
 use show::{write_done, write_refusal};
 use text::{MOST, TextError, parse};
@@ -18,13 +18,7 @@ fn tell(shape: Shape<MOST>, grid: &[u8], counts: &mut [u32], to: &mut Writer)
     ensures { Tells shape.rows shape.cols grid.now to.old to.new }
 {
     match count(shape.rows, shape.cols, grid, counts) {
-        Ok(
-            Totals {
-                land,
-                outlets,
-                greatest,
-            },
-        ) => write_done(to, shape, counts, land, outlets, greatest),
+        Ok(t) => write_done(to, shape, counts, t.land, t.outlets, t.greatest),
         Err(CountError::Shape | CountError::Length) => unreachable!(),
         Err(CountError::Code(place)) => write_refusal(to, 3, &[place]),
         Err(CountError::Loop { place, length }) => write_refusal(to, 4, &[place, length]),

@@ -18,7 +18,7 @@ pub struct Read<T> {
 }
 
 // The first byte at which the text stops being a proper one, or its length where it ends too early.
-#[derive(Drop)]
+#[derive(Clone, Copy, PartialEq, Eq, Debug)]
 pub struct Malformed {
     pub at: usize,
 }
@@ -37,6 +37,7 @@ fn read_number(text: &[u8], at: usize, end: u8) -> Result<Read<usize>, Malformed
                 next: at + i + 1,
             });
         }
+        // A digit more may stand behind 1 to 999: no needless zero leads, and no fifth digit follows.
         if !b.is_ascii_digit() || 0 < i && !(1..=999).contains(&value) {
             return Err(Malformed { at: at + i });
         }
@@ -93,7 +94,7 @@ fn read_first(text: &[u8]) -> Result<Read<(usize, usize)>, Malformed>
 }
 
 // Why a text has no codes: where it stops being a proper one, or that its sides lie outside the bounds.
-#[derive(Drop)]
+#[derive(Clone, Copy, PartialEq, Eq, Debug)]
 pub enum TextError {
     Malformed(usize),
     Shape,

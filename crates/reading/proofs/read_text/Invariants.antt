@@ -1,7 +1,7 @@
--- The loop of `read_full`: each read that goes on leaves fewer bytes of room.
+-- The loop of `read_text`: each read that goes on leaves fewer bytes of room.
 use Prim.Native.Nat.{◌-◌, ◌≤◌}
 use lib.ListN.{length}
-use Rattle.text_cases.proofs.read_full.Given as goal
+use Rattle.reading.proofs.read_text.Given as goal
 
 abbrev pub invariant-loop-n : goal.invariant-loop-n
 invariant-loop-n g l = l.n ≤ length l.text
