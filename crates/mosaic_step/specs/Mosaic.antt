@@ -3,7 +3,7 @@
 use Rattle.std.specs.Prelude.{List, ℕ}
 use Rattle.mosaic_read.specs.Said.{borders}
 use Rattle.mosaic_step.specs.Table.{Table}
-use Rattle.mosaic_step.specs.declared.mosaic.Mosaic.{Mosaic}
+use Rattle.mosaic_step.specs.declared.records.Mosaic.{Mosaic}
 
 -- how many border cells it has
 abbrev pub all_in : Mosaic → ℕ
