@@ -1,5 +1,5 @@
 pub mod Listed
-pub mod Givers
+pub mod Sums
 pub mod Handed
 pub mod Move
 pub mod Whole

@@ -1,11 +1,10 @@
 -- A net that is given as a list: the water of cell p goes to the cell that stands at p, and to no cell where that is not below the length.
 -- What counting on it promises.
 -- Assumes nothing.
-use Rattle.std.specs.Prelude.{List, ◌≡◌, ℕ, ◌<◌, ◌≤◌, length, get_or}
+use Rattle.std.specs.Prelude.{List, ◌≡◌, ℕ, ◌<◌, ◌≤◌, Result, Ok, Err, length, get_or}
 use Rattle.flow.specs.Net.{sum, Counts, NoLoop, FirstLoop}
 use Rattle.sheet.specs.Sheet.{count_at}
-use Rattle.listed_net.specs.declared.NetCounted.{NetCounted}
-use Rattle.listed_net.specs.declared.NetCounted.TheVariants.{Done, Loop}
+use Rattle.listed_net.specs.declared.NetLoop.{NetLoop}
 
 -- where the water of p goes; beyond the list to no cell
 unfoldable pub to_at : List ℕ → ℕ → ℕ
@@ -24,12 +23,12 @@ pub record NetCounts (to weights totals : List ℕ) : Type 0 where
   pub counts : Counts (length to) (to_at to) (count_at weights) (count_at totals)
 
 -- what each answer says
-abbrev pub Answers : (to weights totals : List ℕ) → NetCounted → Type 0
-Answers to weights totals Done = NetCounts to weights totals
-Answers to weights totals (Loop first len) = FirstLoop (length to) (to_at to) first len
+abbrev pub Answers : (to weights totals : List ℕ) → Result Unit NetLoop → Type 0
+Answers to weights totals (Ok done) = NetCounts to weights totals
+Answers to weights totals (Err loop) = FirstLoop (length to) (to_at to) loop.first loop.length
 
 -- the promise: what the answer says, and both buffers keep their lengths
-pub record NetPromise (to weights totals waiting : List ℕ) (r : NetCounted) : Type 0 where
+pub record NetPromise (to weights totals waiting : List ℕ) (r : Result Unit NetLoop) : Type 0 where
   pub totals_long : length totals ≡ length to
   pub waiting_long : length waiting ≡ length to
   pub answers : Answers to weights totals r

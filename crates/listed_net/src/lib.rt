@@ -2,35 +2,37 @@
 // cell waits for its givers; one that waits for none hands on what it holds. What then waits lies on a loop.
 #![tactic(auto)]
 
+pub mod arrows;
 pub mod method;
 
 ghost use Rattle.listed_net.specs.Net.{NetLent, NetPromise};
 
-use crate::method::{first_open, loop_length, number_givers, scan};
-use promise::Found;
-use sheet::totals::clear;
+use crate::arrows::{Arrows, gather};
+use crate::method::{first_open, scan};
+use round::others_on_loop;
 
-// What is said: the totals are the counts, or the smallest cell on any loop, and the length of its loop.
-#[derive(Drop)]
-pub enum NetCounted {
-    Done,
-    Loop { first: usize, length: usize },
+// The smallest cell on any loop, and the length of its loop.
+#[derive(Clone, Copy, Debug, PartialEq, Eq)]
+pub struct NetLoop {
+    pub first: usize,
+    pub length: usize,
 }
 
 // Counts on the net `to`: the totals hold the weights at first, and the counts when done. After a loop the totals and the work buffer may
 // hold anything.
-pub fn count_net(to: &[u32], totals: &mut [u32], waiting: &mut [u32]) -> NetCounted
+pub fn count_net(to: &[u32], totals: &mut [u32], waiting: &mut [u32]) -> Result<(), NetLoop>
     requires { NetLent to.now totals.old waiting.old }
     ensures { NetPromise to.now totals.old totals.new waiting.new result }
 {
-    clear(waiting);
-    number_givers(to, waiting);
+    // Each arrow is one giver that its end waits for.
+    waiting.fill(0);
+    gather(to, waiting, |_| 1);
     scan(to, totals, waiting);
     match first_open(waiting) {
-        Found::At(first) => {
-            let length = loop_length(to, first);
-            NetCounted::Loop { first, length }
+        Some(first) => {
+            let length = others_on_loop(&Arrows { to }, first) + 1;
+            Err(NetLoop { first, length })
         }
-        Found::Nothing => NetCounted::Done,
+        None => Ok(()),
     }
 }

@@ -8,6 +8,7 @@ ghost use Rattle.promise.specs.First.{Finds};
 ghost use Rattle.sheet.specs.Grid.{cells_in, dest_in};
 ghost use Rattle.sheet.specs.Sheet.{SheetOnLoop};
 
+use round::{Net, others_on_loop};
 use sheet::compass::is_arrow;
 use sheet::grid::Grid;
 
@@ -44,18 +45,33 @@ pub fn first_left(grid: &[u8], counts: &[u32]) -> Option<usize>
     (0..grid.len()).find(|p| is_left(grid, counts, *p))
 }
 
-// The length of the loop that `start` lies on, by walking round it: each of its cells leads on.
+// A grid as a net that code can follow.
+#[derive(Drop)]
+struct Waters<'a>(&'a Grid<'a>);
+
+impl Net for Waters<'_> {
+    ghost use Rattle.std.proofs.Common.{arith};
+    ghost use Rattle.std.proofs.Math.Nat.{mul-le-mul};
+    ghost use Rattle.sheet.proofs.Dest.{dest_beyond};
+    ghost use Rattle.sheet.specs.Grid.{cells_in, dest_in};
+
+    ghost cells = { λ net. cells_in net.0.now };
+
+    ghost to = { λ net. dest_in net.0.now };
+
+    fn next(&self, p: usize) -> Option<usize> {
+        self.0.dest(p)
+    }
+
+    ghost few = { λ net. omega (arith, mul-le-mul net.0.now.sheet.bounds.rows_most net.0.now.sheet.bounds.cols_most) };
+
+    ghost out = { λ net. dest_beyond net.0.now.sheet.rows net.0.now.sheet.cols net.0.now.codes.now net.0.now.long };
+}
+
+// The length of the loop that `start` lies on, by walking round it.
 pub fn loop_length(grid: &Grid<'_>, start: usize) -> usize
     requires { SheetOnLoop grid.now.sheet.rows grid.now.sheet.cols grid.now.codes.now start }
     ensures { result ≡ loop_length (cells_in grid.now) (dest_in grid.now) start }
 {
-    let mut p = start;
-    let mut length = 0;
-    loop {
-        p = grid.dest(p).unwrap();
-        length += 1;
-        if p == start {
-            return length;
-        }
-    }
+    others_on_loop(&Waters(grid), start) + 1
 }

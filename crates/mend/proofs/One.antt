@@ -11,35 +11,37 @@ use Rattle.promise.specs.Reply.{Reply}
 use Rattle.promise.specs.Reply.Reply.{reply}
 use Rattle.promise.proofs.One.{unless_one, unless_one_met, unless_all_one, unless_some_one, one_value}
 use Rattle.sheet.proofs.Unique.{loop_one, counts_one}
-use Rattle.mend.specs.Mend.{MendPromise, Mended, changed, mend_reply, ends}
-use Rattle.mend.specs.declared.MendReply.{MendReply}
-use Rattle.mend.specs.declared.MendReply.TheVariants.{Done, Shape, Length, Code, Count, Place, NewCode, Loop}
+use Rattle.mend.specs.Mend.{MendPromise, Mended, changed, ends}
+use Rattle.std.specs.Prelude.{Result, Ok, Err}
+use Rattle.mend.specs.Reply.{mend_reply}
+use Rattle.mend.specs.declared.error.MendError.{MendError}
+use Rattle.mend.specs.declared.error.MendError.TheVariants.{Shape, Length, Code, Count, Place, NewCode, Loop}
 
 -- the paper's number and values tell the answers apart
-answer_of : Reply → MendReply
+answer_of : Reply → Result (Unit {0}) MendError
 answer_of (reply n vs) =
-    cond (eqb n 0) Done
-    (cond (eqb n 1) Shape
+    cond (eqb n 0) (Ok tt)
+    (Err (cond (eqb n 1) Shape
     (cond (eqb n 2) Length
     (cond (eqb n 3) (Code (get_or vs 0 0))
     (cond (eqb n 4) (Loop (get_or vs 0 0) (get_or vs 1 0))
     (cond (eqb n 5) (Count (get_or vs 0 0))
-    (cond (eqb n 6) Place NewCode))))))
+    (cond (eqb n 6) Place NewCode)))))))
 
-answer_back : (r : MendReply) → answer_of (mend_reply r) ≡ r
+answer_back : (r : Result (Unit {0}) MendError) → answer_of (mend_reply r) ≡ r
 unfolding answer_of
-answer_back Done = refl
-answer_back Shape = refl
-answer_back Length = refl
-answer_back (Code p) = refl
-answer_back (Loop p len) = refl
-answer_back (Count p) = refl
-answer_back Place = refl
-answer_back NewCode = refl
+answer_back (Ok tt) = refl
+answer_back (Err Shape) = refl
+answer_back (Err Length) = refl
+answer_back (Err (Code p)) = refl
+answer_back (Err (Loop p len)) = refl
+answer_back (Err (Count p)) = refl
+answer_back (Err Place) = refl
+answer_back (Err NewCode) = refl
 
 -- an answer with the grid and the counts that it leaves
 pub record Answer : Type 0 where
-  pub answer : MendReply
+  pub answer : Result (Unit {0}) MendError
   pub grid_after : List ℕ
   pub counts_after : List ℕ
 

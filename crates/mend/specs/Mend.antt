@@ -8,19 +8,6 @@ use Rattle.sheet.specs.Compass.{is_code}
 use Rattle.sheet.specs.Shape.{SheetShape}
 use Rattle.sheet.specs.Sheet.{CodeOk, SheetCounts, SheetLengths, LoopIn}
 use Rattle.checking.specs.Check.{CountOk, Right}
-use Rattle.mend.specs.declared.MendReply.{MendReply}
-use Rattle.mend.specs.declared.MendReply.TheVariants.{Done, Shape, Length, Code, Count, Place, NewCode, Loop}
-
--- the paper's number and values for each answer
-abbrev pub mend_reply : MendReply → Reply
-mend_reply Done = reply 0 []
-mend_reply Shape = reply 1 []
-mend_reply Length = reply 2 []
-mend_reply (Code place) = reply 3 (place ∷ [])
-mend_reply (Loop place len) = reply 4 (place ∷ len ∷ [])
-mend_reply (Count place) = reply 5 (place ∷ [])
-mend_reply Place = reply 6 []
-mend_reply NewCode = reply 7 []
 
 -- an outcome: what is said, and what grid and counts then hold
 pub record MendOutcome : Type 0 where

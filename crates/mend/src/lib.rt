@@ -2,27 +2,18 @@
 // whether it comes back, and then the cell is taken out of the counts with its old code and put in with its new one.
 #![tactic(auto)]
 
-ghost use Rattle.std.specs.Prelude.{◌*◌, ◌<◌};
-ghost use Rattle.sheet.specs.Leaves.{Laid};
+mod error;
+
+ghost use Rattle.std.specs.Prelude.{◌≡◌, ◌*◌, ◌<◌, length};
 ghost use Rattle.sheet.specs.Sheet.{SheetCounts};
-ghost use Rattle.mend.specs.Mend.{MendPromise, MendCell, MendChange, mend_reply, ends};
+ghost use Rattle.mend.specs.Mend.{MendPromise, MendCell, MendChange, ends};
+ghost use Rattle.mend.specs.Reply.{mend_reply};
 
-use checking::{CheckReply, check};
-use mend_moves::{Followed, look_ahead, put_in, take_out};
+pub use crate::error::MendError;
+use checking::check;
+use mend_moves::{look_ahead, put_in, take_out};
 use sheet::compass::is_code;
-
-// The paper's replies to mending.
-#[derive(Drop)]
-pub enum MendReply {
-    Done,
-    Shape,
-    Length,
-    Code(usize),
-    Count(usize),
-    Place,
-    NewCode,
-    Loop { place: usize, length: usize },
-}
+use sheet::shape::Sheet;
 
 // Stores the new code of one cell and mends the counts, or refuses and leaves both as they were lent.
 pub fn mend(
@@ -32,67 +23,59 @@ pub fn mend(
     counts: &mut [u32],
     place: usize,
     code: u8,
-) -> MendReply
+) -> Result<(), MendError>
     ensures { MendPromise rows cols grid.old counts.old place code (ends (mend_reply result) grid.new counts.new) }
 {
-    match check(rows, cols, grid, counts) {
-        CheckReply::Shape => MendReply::Shape,
-        CheckReply::Length => MendReply::Length,
-        CheckReply::Code(p) => MendReply::Code(p),
-        CheckReply::Count(p) => MendReply::Count(p),
-        CheckReply::Done => mend_cell(rows, cols, grid, counts, place, code),
-    }
+    check(rows, cols, grid, counts)?;
+    mend_cell(Sheet { rows, cols }, grid, counts, place, code)
 }
 
 // The same where the lent sheet is right.
 fn mend_cell(
-    rows: usize,
-    cols: usize,
-    grid: &mut [u8],
+    sheet: Sheet,
+    codes: &mut [u8],
     counts: &mut [u32],
     place: usize,
     code: u8,
-) -> MendReply
-    requires laid { Laid rows cols grid.old counts.old }
-    requires sheet_counts { SheetCounts rows cols grid.old counts.old }
-    ensures { MendCell rows cols grid.old counts.old place code (ends (mend_reply result) grid.new counts.new) }
+) -> Result<(), MendError>
+    requires codes_len { length codes.old ≡ sheet.rows * sheet.cols }
+    requires counts_len { length counts.old ≡ sheet.rows * sheet.cols }
+    requires sheet_counts { SheetCounts sheet.rows sheet.cols codes.old counts.old }
+    ensures { MendCell sheet.rows sheet.cols codes.old counts.old place code (ends (mend_reply result) codes.new counts.new) }
 {
-    let none = rows * cols;
-    if none <= place {
-        return MendReply::Place;
+    if sheet.cells() <= place {
+        return Err(MendError::Place);
     }
     if !is_code(code) {
-        return MendReply::NewCode;
+        return Err(MendError::NewCode);
     }
-    change(rows, cols, grid, counts, place, code)
+    change(sheet, codes, counts, place, code)
 }
 
 // The same where place and new code are right too.
 fn change(
-    rows: usize,
-    cols: usize,
-    grid: &mut [u8],
+    sheet: Sheet,
+    codes: &mut [u8],
     counts: &mut [u32],
     place: usize,
     code: u8,
-) -> MendReply
-    requires laid { Laid rows cols grid.old counts.old }
-    requires sheet_counts { SheetCounts rows cols grid.old counts.old }
-    requires place_bound { place < rows * cols }
-    ensures { MendChange rows cols grid.old counts.old place code (ends (mend_reply result) grid.new counts.new) }
+) -> Result<(), MendError>
+    requires codes_len { length codes.old ≡ sheet.rows * sheet.cols }
+    requires counts_len { length counts.old ≡ sheet.rows * sheet.cols }
+    requires sheet_counts { SheetCounts sheet.rows sheet.cols codes.old counts.old }
+    requires place_bound { place < sheet.rows * sheet.cols }
+    ensures { MendChange sheet.rows sheet.cols codes.old counts.old place code (ends (mend_reply result) codes.new counts.new) }
 {
-    if grid[place] == code {
-        return MendReply::Done;
+    if codes[place] == code {
+        return Ok(());
     }
-    match look_ahead(rows, cols, grid, place, code) {
-        Followed::Round { first, length } => MendReply::Loop {
-            place: first,
-            length,
-        },
-        Followed::Out => {
-            take_out(rows, cols, grid, counts, place);
-            put_in(rows, cols, grid, counts, place, code);
-            MendReply::Done
-        }
+    if let Some(round) = look_ahead(sheet, codes, place, code) {
+        return Err(MendError::Loop {
+            place: round.first,
+            length: round.length,
+        });
     }
+    take_out(sheet, codes, counts, place);
+    put_in(sheet, codes, counts, place, code);
+    Ok(())
 }

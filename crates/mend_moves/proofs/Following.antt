@@ -3,7 +3,7 @@
 use mathlib.Core.List.{List}
 use mathlib.Core.Logic.{inl, inr}
 use mathlib.Core.Path.{◌≡◌, refl, sym, ap, ◌∙◌}
-use Prim.Native.Nat.{ℕ, suc, ◌+◌, ◌*◌, ◌<◌, ◌≤◌}
+use Prim.Native.Nat.{ℕ, suc, min, ◌+◌, ◌*◌, ◌<◌, ◌≤◌}
 use native.Mathlib.Numerals.{add-one}
 use native.Mathlib.Omega.{arith}
 use borrow.Author.Count.{below_more}
@@ -12,11 +12,13 @@ use Rattle.flow.specs.Net.{steps}
 use Rattle.flow.proofs.Close.{closes_first}
 use Rattle.flow.proofs.Follow.{follow_ends, follow_out}
 use Rattle.flow.proofs.Sum.{same}
-use Rattle.flow.proofs.Walk.{steps_suc, inside_at}
+use Rattle.flow.proofs.Walk.{below, steps_suc, inside_at}
+use Rattle.std.specs.Prelude.{Option, Some, None}
+use Rattle.sheet.specs.Grid.{LeadsTo}
 use Rattle.sheet.specs.Sheet.{dest_of, unit, SheetNoLoop, FirstSheetLoop}
 use Rattle.sheet.proofs.Change.{changed_long, sheet_without}
 use Rattle.sheet.proofs.Dest.{dest_beyond}
-use Rattle.mend_moves.specs.Moves.{OnWay, Smaller}
+use Rattle.mend_moves.specs.Moves.{OnWay, Lands, landing}
 
 module _ (to : ℕ → ℕ) (start : ℕ) where
   pub way_begins : {p : ℕ} → p ≡ to start → OnWay to start start 0 p
@@ -29,20 +31,20 @@ module _ (to : ℕ → ℕ) (start : ℕ) where
   }
 
   module _ (least further p : ℕ) (s : OnWay to start least further p) (h : p ≡ start → ⊥) where
-    smallest : {v : ℕ} → Smaller least p v → (i : ℕ) × (i < suc (further + 1)) × (steps to i start ≡ v)
-    smallest m = elim m.one [
-      | inl e ↦ (s.met.0, omega (arith, s.met.1), s.met.2 ∙ sym e)
-      | inr e ↦ (suc further, omega arith, sym s.here ∙ sym e)
+    smallest : (i : ℕ) × (i < suc (further + 1)) × (steps to i start ≡ min least p)
+    smallest = elim (below p least) [
+      | inl l ↦ (suc further, omega arith, sym s.here ∙ omega arith)
+      | inr l ↦ (s.met.0, omega (arith, s.met.1), s.met.2 ∙ omega arith)
     ]
 
-    pub way_on : {v q : ℕ} → Smaller least p v → q ≡ to p → OnWay to start v (further + 1) q
-    way_on {v} {q} m d = record {
+    pub way_on : {q : ℕ} → q ≡ to p → OnWay to start (min least p) (further + 1) q
+    way_on {q} d = record {
       here = d ∙ ap to s.here ∙ sym (steps_suc to (suc further) start) ∙ ap (λ (k : ℕ). steps to (suc k) start) (sym (add-one further));
       never = below_more _ _ s.never (λ e. h (s.here ∙ e));
-      met = smallest m;
+      met = smallest;
       under = λ j l. elim (same j (suc further)) [
-        | inl e ↦ rw e (omega (arith, s.here, m.under_b))
-        | inr e ↦ omega (arith, s.under j (omega arith), m.under_a)
+        | inl e ↦ rw e (omega (arith, s.here))
+        | inr e ↦ omega (arith, s.under j (omega arith))
       ];
     }
 
@@ -71,3 +73,8 @@ module _ (rows cols : ℕ) (g : List ℕ) (start : ℕ) (long : length g ≡ row
   way_out l =
       follow_out (rows * cols) start (dest_of rows cols g) (unit g) (dest_of rows cols (set g start 255)) (unit (set g start 255)) out out' lt (sheet_without rows cols g start lt long) free further s.never
       (omega (arith, s.here))
+
+-- where water lands, told by what the grid answered
+pub landed : (n d : ℕ) (r : Option ℕ) → LeadsTo n d r → (landing n r ≡ d) × Lands n r
+landed n d (Some q) e = (e.0, e.1)
+landed n d None e = (sym e, tt)

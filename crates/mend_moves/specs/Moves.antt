@@ -1,23 +1,41 @@
 -- What the moves of mending promise each other and the crate that calls them. Nothing here is cited by a public promise.
 -- Assumes nothing.
-use Rattle.std.specs.Prelude.{List, ◌⊎◌, ◌≡◌, ℕ, suc, ◌*◌, ◌<◌, ◌≤◌, length}
+use Rattle.std.specs.Prelude.{Option, Some, None, List, ◌≡◌, ℕ, suc, ◌*◌, ◌<◌, ◌≤◌, length, set}
 use Rattle.flow.specs.Net.{steps}
 use Rattle.flow.proofs.Mend.{Off}
-use Rattle.sheet.specs.Sheet.{dest_of, unit, count_at, SheetCounts, SheetNoLoop, FirstSheetLoop}
-use Rattle.mend_moves.specs.declared.Followed.{Followed}
-use Rattle.mend_moves.specs.declared.Followed.TheVariants.{Out, Round}
+use Rattle.sheet.specs.Sheet.{dest_of, unit, count_at, SheetCounts, SheetNoLoop, FirstSheetLoop, CountsOf}
+use Rattle.sheet.specs.declared.grid.Grid.{Grid}
+use Rattle.mend_moves.specs.declared.Round.{Round}
 
-pub record Smaller (a b r : ℕ) : Type 0 where
-  pub under_a : r ≤ a
-  pub under_b : r ≤ b
-  pub one : (r ≡ a) ⊎ (r ≡ b)
+-- ---- a grid as it is handed on
+
+-- it has no loop; it has none without the cell p
+abbrev pub Free : Grid → Type 0
+Free g = SheetNoLoop g.sheet.rows g.sheet.cols g.codes.now
+
+abbrev pub FreeWithout : Grid → ℕ → Type 0
+FreeWithout g p = SheetNoLoop g.sheet.rows g.sheet.cols (set g.codes.now p 255)
+
+abbrev pub CountsIn : Grid → List ℕ → Type 0
+CountsIn g counts = CountsOf g.sheet.rows g.sheet.cols g.codes.now counts
+
+-- ---- where water lands, of n cells
+
+-- a cell that it lands at is one of them; its place, or n where there is none
+abbrev pub Lands : ℕ → Option ℕ → Type 0
+Lands n (Some p) = p < n
+Lands n None = Unit {0}
+
+abbrev pub landing : ℕ → Option ℕ → ℕ
+landing n (Some p) = p
+landing n None = n
 
 -- ---- following the water of a cell without which the sheet has no loop
 
 -- it comes back, and has gone round the first loop; or it does not, and there is no loop
-abbrev pub Follows : ℕ → ℕ → List ℕ → Followed → Type 0
-Follows rows cols grid (Round first len) = FirstSheetLoop rows cols grid first len
-Follows rows cols grid Out = SheetNoLoop rows cols grid
+abbrev pub Follows : ℕ → ℕ → List ℕ → Option Round → Type 0
+Follows rows cols grid (Some r) = FirstSheetLoop rows cols grid r.first r.length
+Follows rows cols grid None = SheetNoLoop rows cols grid
 
 -- half-way: the water of `start` has come to p in one step and `further` more, not by way of `start`; `least` is the smallest place before p
 pub record OnWay (to : ℕ → ℕ) (start least further p : ℕ) : Type 0 where
@@ -33,3 +51,7 @@ pub record Owing (rows cols : ℕ) (grid counts : List ℕ) (t more less : ℕ) 
   pub long : length counts ≡ rows * cols
   pub off : t < rows * cols → Off (rows * cols) (dest_of rows cols grid) (unit grid) (count_at counts) t more less
   pub even : rows * cols ≤ t → SheetCounts rows cols grid counts
+
+-- the same of a grid as it is handed on
+abbrev pub OwingIn : Grid → (counts : List ℕ) (t more less : ℕ) → Type 0
+OwingIn g counts t more less = Owing g.sheet.rows g.sheet.cols g.codes.now counts t more less

@@ -1,124 +1,106 @@
 // The two moves of mending, and the look ahead before them.
 #![tactic(auto)]
 
-ghost use Rattle.std.specs.Prelude.{◌≡◌, ◌*◌, ◌<◌, ◌≤◌, set};
-ghost use Rattle.sheet.specs.Leaves.{Laid};
-ghost use Rattle.sheet.specs.Sheet.{SheetCounts, SheetNoLoop};
-ghost use Rattle.mend_moves.specs.Moves.{Follows, Owing, Smaller};
-ghost use Rattle.sheet.specs.Sheet.{CountsOf};
+ghost use Rattle.std.specs.Prelude.{◌≡◌, ◌*◌, ◌<◌, ◌≤◌, length, set};
+ghost use Rattle.sheet.specs.Grid.{cells_in};
+ghost use Rattle.sheet.specs.Sheet.{SheetCounts, SheetNoLoop, CountsOf};
+ghost use Rattle.mend_moves.specs.Moves.{Follows, FreeWithout, Free, OwingIn, Lands, landing, CountsIn};
 
 use around::givers_sum;
 use sheet::compass::is_arrow;
-use sheet::step::dest;
+use sheet::grid::Grid;
+use sheet::shape::Sheet;
 
-// Where the water of a cell goes: out of the sheet or into absent ground, or round to that cell again. Then `first` is the smallest place that
-// it comes by, and `length` the number of cells.
-#[derive(Drop)]
-pub enum Followed {
-    Out,
-    Round { first: usize, length: usize },
+// Water that comes round to the cell that it left: `first` is the smallest place that it comes by, and `length` the number of cells.
+#[derive(Clone, Copy, PartialEq, Eq, Debug)]
+pub struct Round {
+    pub first: usize,
+    pub length: usize,
 }
 
-// The smaller of two places.
-fn smaller(a: usize, b: usize) -> usize
-    ensures { Smaller a b result }
+// Follows the water of `start` once, until it comes round or goes to no land cell. Without that cell the sheet has no loop.
+fn follow(grid: &Grid<'_>, start: usize) -> Option<Round>
+    requires start_bound { start < cells_in grid.now }
+    requires no_other_loop { FreeWithout grid.now start }
+    ensures { Follows grid.now.sheet.rows grid.now.sheet.cols grid.now.codes.now result }
 {
-    if a <= b { a } else { b }
-}
-
-// Follows the water of `start` once. Without that cell the sheet has no loop.
-fn follow(rows: usize, cols: usize, grid: &[u8], start: usize) -> Followed
-    requires laid { Laid rows cols grid.now grid.now }
-    requires start_bound { start < rows * cols }
-    requires sheet_no_loop { SheetNoLoop rows cols (set grid.now start 255) }
-    ensures { Follows rows cols grid.now result }
-{
-    let none = rows * cols;
-    let mut least = start;
+    let mut first = start;
     let mut further = 0;
-    let mut p = dest(rows, cols, grid, start);
-    while p < none {
+    let mut next = grid.dest(start);
+    while let Some(p) = next {
         if p == start {
             let length = further + 1;
-            return Followed::Round {
-                first: least,
-                length,
-            };
+            return Some(Round { first, length });
         }
-        least = smaller(least, p);
+        first = first.min(p);
         further += 1;
-        p = dest(rows, cols, grid, p);
+        next = grid.dest(p);
     }
-    Followed::Out
+    None
 }
 
 // Where the water of `place` would go with the new code. The grid is left as it was.
-pub fn look_ahead(rows: usize, cols: usize, grid: &mut [u8], place: usize, new: u8) -> Followed
-    requires laid { Laid rows cols grid.old grid.old }
-    requires place_bound { place < rows * cols }
-    requires sheet_no_loop { SheetNoLoop rows cols grid.old }
-    ensures follows { Follows rows cols (set grid.old place new) result }
-    ensures grid_unchanged { grid.new ≡ grid.old }
+pub fn look_ahead(sheet: Sheet, codes: &mut [u8], place: usize, new: u8) -> Option<Round>
+    requires codes_len { length codes.old ≡ sheet.rows * sheet.cols }
+    requires place_bound { place < sheet.rows * sheet.cols }
+    requires no_loop { SheetNoLoop sheet.rows sheet.cols codes.old }
+    ensures follows { Follows sheet.rows sheet.cols (set codes.old place new) result }
+    ensures codes_unchanged { codes.new ≡ codes.old }
 {
-    let old = grid[place];
-    grid[place] = new;
-    let found = follow(rows, cols, grid, place);
-    grid[place] = old;
-    found
+    let old = codes[place];
+    codes[place] = new;
+    let round = follow(&Grid { sheet, codes }, place);
+    codes[place] = old;
+    round
 }
 
-// Adds `more` and takes off `less` at the cell `start`, where it is one, and at each cell downstream of it.
-fn carry(
-    rows: usize,
-    cols: usize,
-    grid: &[u8],
-    counts: &mut [u32],
-    start: usize,
-    more: u32,
-    less: u32,
-)
-    requires laid { Laid rows cols grid.now counts.old }
-    requires sheet_no_loop { SheetNoLoop rows cols grid.now }
-    requires owing { Owing rows cols grid.now counts.old start more less }
-    requires less_bound { less ≤ rows * cols }
-    ensures { CountsOf rows cols grid.now counts.new }
+// Adds `more` and takes off `less` at the cell `start`, where there is one, and at each cell downstream of it.
+fn carry(grid: &Grid<'_>, counts: &mut [u32], start: Option<usize>, more: u32, less: u32)
+    requires counts_len { length counts.old ≡ cells_in grid.now }
+    requires lands { Lands (cells_in grid.now) start }
+    requires no_loop { Free grid.now }
+    requires owing { OwingIn grid.now counts.old (landing (cells_in grid.now) start) more less }
+    requires less_bound { less ≤ cells_in grid.now }
+    ensures { CountsIn grid.now counts.new }
 {
-    let none = rows * cols;
-    let mut p = start;
-    while p < none {
+    let mut next = start;
+    while let Some(p) = next {
         counts[p] = counts[p] + more - less;
-        p = dest(rows, cols, grid, p);
+        next = grid.dest(p);
     }
 }
 
 // Takes a cell out: marks it absent, and takes its count off each cell down its way.
-pub fn take_out(rows: usize, cols: usize, grid: &mut [u8], counts: &mut [u32], place: usize)
-    requires laid { Laid rows cols grid.old counts.old }
-    requires place_bound { place < rows * cols }
-    requires sheet_counts { SheetCounts rows cols grid.old counts.old }
-    ensures grid_after { grid.new ≡ set grid.old place 255 }
-    ensures counts_of { CountsOf rows cols (set grid.old place 255) counts.new }
+pub fn take_out(sheet: Sheet, codes: &mut [u8], counts: &mut [u32], place: usize)
+    requires codes_len { length codes.old ≡ sheet.rows * sheet.cols }
+    requires counts_len { length counts.old ≡ sheet.rows * sheet.cols }
+    requires place_bound { place < sheet.rows * sheet.cols }
+    requires sheet_counts { SheetCounts sheet.rows sheet.cols codes.old counts.old }
+    ensures codes_after { codes.new ≡ set codes.old place 255 }
+    ensures counts_of { CountsOf sheet.rows sheet.cols (set codes.old place 255) counts.new }
 {
-    let next = dest(rows, cols, grid, place);
+    let next = Grid { sheet, codes }.dest(place);
     let held = counts[place];
-    grid[place] = 255;
+    codes[place] = 255;
     counts[place] = 0;
-    carry(rows, cols, grid, counts, next, 0, held);
+    carry(&Grid { sheet, codes }, counts, next, 0, held);
 }
 
 // Puts a cell in: stores its code, and where that is an arrow adds 1 and the counts of its givers at it and at each cell down its way.
-pub fn put_in(rows: usize, cols: usize, grid: &mut [u8], counts: &mut [u32], place: usize, code: u8)
-    requires laid { Laid rows cols grid.old counts.old }
-    requires place_bound { place < rows * cols }
-    requires sheet_counts { SheetCounts rows cols (set grid.old place 255) counts.old }
-    requires sheet_no_loop { SheetNoLoop rows cols (set grid.old place code) }
-    ensures grid_after { grid.new ≡ set grid.old place code }
-    ensures counts_of { CountsOf rows cols (set grid.old place code) counts.new }
+pub fn put_in(sheet: Sheet, codes: &mut [u8], counts: &mut [u32], place: usize, code: u8)
+    requires codes_len { length codes.old ≡ sheet.rows * sheet.cols }
+    requires counts_len { length counts.old ≡ sheet.rows * sheet.cols }
+    requires place_bound { place < sheet.rows * sheet.cols }
+    requires sheet_counts { SheetCounts sheet.rows sheet.cols (set codes.old place 255) counts.old }
+    requires no_loop { SheetNoLoop sheet.rows sheet.cols (set codes.old place code) }
+    ensures codes_after { codes.new ≡ set codes.old place code }
+    ensures counts_of { CountsOf sheet.rows sheet.cols (set codes.old place code) counts.new }
 {
-    grid[place] = code;
+    codes[place] = code;
     if !is_arrow(code) {
         return;
     }
-    let own = givers_sum(rows, cols, grid, counts, place) + 1;
-    carry(rows, cols, grid, counts, place, own as u32, 0);
+    let grid = Grid { sheet, codes };
+    let own = givers_sum(&grid, counts, place) + 1;
+    carry(&grid, counts, Some(place), own as u32, 0);
 }

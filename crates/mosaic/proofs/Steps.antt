@@ -7,7 +7,8 @@ use Prim.Native.Nat.{ℕ, suc, ◌+◌, ◌-◌, ◌*◌, ◌/◌, ◌%◌, ◌�
 use native.Mathlib.Omega.{arith}
 use Rattle.flow.proofs.Sum.{test}
 use Rattle.sheet.specs.Compass.{is_arrow, step_of}
-use Rattle.sheet.specs.Leaves.{within, lift}
+use Rattle.sheet.specs.Leaves.{lift}
+use Rattle.sheet.specs.Shape.{within}
 use Rattle.sheet.specs.Sheet.{step_from}
 use Rattle.sheet.proofs.Places.{place_lt, within_true, true_within}
 use Rattle.sheet.proofs.Signed.{lift_small, arrow_row, arrow_col, step_on, step_off_rows, step_off_cols}

@@ -15,6 +15,7 @@ use Rattle.flow.proofs.Totals.{counts_weights}
 use Rattle.flow.proofs.Walk.{below}
 use Rattle.sheet.specs.Sheet.{count_at}
 use Rattle.listed_net.specs.Net.{to_at, NetLent, NetCounts}
+use Rattle.listed_net.specs.Method.{Fit, Gathered}
 use Rattle.listed_net.proofs.Listed.{to_at_read}
 use Rattle.mosaic_read.specs.Records.{heights, widths}
 use Rattle.mosaic_read.specs.Said.{borders, feeds_by, record_of, number_in, said_count, said_way, said_code}
@@ -24,7 +25,6 @@ use Rattle.promise.specs.Reply.{Reply}
 use Rattle.promise.specs.Reply.Reply.{reply}
 use Rattle.mosaic_join.specs.Joining.{Work, works, ends, TotalsBy, cleared, JoinExits}
 use Rattle.mosaic_net.specs.Method.{Filled, pours_by, own_by}
-use Rattle.mosaic_join.specs.Method.{GatherLent, Gathered}
 use Rattle.mosaic_net.proofs.Poured.{feeds_beyond, comes_given, comes_most}
 use Rattle.mosaic_net.proofs.Told.{borders_most, own_fits}
 
@@ -94,18 +94,16 @@ module _ (I J : ℕ) (bytes : List ℕ) (w : WellFormed I J bytes) where
           ∙ given_arrows M (to_at pours) (pours_by I J bytes) (count_at totals) h (λ g l. sym (to_at_read pours g (omega (arith, p.long))) ∙ p.holds g l)
 
       -- and fits
-      pub gather_lent : length totals ≡ length feeds → GatherLent pours totals
-      gather_lent long = record {
-        totals_long = omega (arith, f.long, p.long);
-        fits = λ h l. omega (
-          arith,
-          gathers h,
-          comes_most I J (heights bytes J) (widths bytes) (said_way bytes I J) (said_code bytes I J) (said_count bytes I J) (count_at totals) free solves h (omega (arith, p.long)),
-          own_fits I J bytes w,
-        );
-      }
+      pub gathers_fit : Fit pours (count_at totals)
+      gathers_fit h l =
+          omega (
+            arith,
+            gathers h,
+            comes_most I J (heights bytes J) (widths bytes) (said_way bytes I J) (said_code bytes I J) (said_count bytes I J) (count_at totals) free solves h (omega (arith, p.long)),
+            own_fits I J bytes w,
+          )
 
-      pub answers_done : {incoming : List ℕ} {work : Work} → Gathered pours totals incoming (length pours) → work ≡ cleared I J bytes → JoinExits I J bytes (ends (reply 0 []) incoming work)
+      pub answers_done : {incoming : List ℕ} {work : Work} → Gathered pours (count_at totals) incoming (length pours) → work ≡ cleared I J bytes → JoinExits I J bytes (ends (reply 0 []) incoming work)
       answers_done g k =
           met_none (λ v s. first_loop_free free s) record {
             totals = count_at totals;

@@ -8,6 +8,7 @@ use Prim.Native.Nat.{ℕ, ◌<◌, ◌≤◌}
 use lib.Dec.{eqb}
 use lib.ListN.{get_or}
 use lib.Seq.{ext_get_or}
+use Rattle.std.proofs.Common.{Result, Ok, Err}
 use Rattle.flow.specs.Net.{on, NoLoop}
 use Rattle.flow.proofs.Count.{counts_unique}
 use Rattle.flow.proofs.Loop.{loop_or_free, first_loop_one}
@@ -23,8 +24,8 @@ use Rattle.promise.specs.Reply.Reply.{reply}
 use Rattle.promise.proofs.One.{unless_one, unless_all_one, one_value}
 use Rattle.sheet.specs.Sheet.{LoopFound}
 use Rattle.mosaic_join.specs.Joining.{Work, ends, incoming_by, ExitLoop, Joined, JoinExits, JoinPromise, join_reply}
-use Rattle.mosaic_join.specs.declared.JoinReply.{JoinReply}
-use Rattle.mosaic_join.specs.declared.JoinReply.TheVariants.{Done, Layout, Record, Length, Loop}
+use Rattle.mosaic_join.specs.declared.JoinError.{JoinError}
+use Rattle.mosaic_join.specs.declared.JoinError.TheVariants.{Layout, Record, Length, Loop}
 
 -- where what follows is known to admit one only if there are no such values
 unless_some_one_none : {R W : Type 0} {Rest : R → Type 0} {Applies : W → Type 0} {x : W → R} → AtMostOne Applies → (((v : W) → Applies v → ⊥) → AtMostOne Rest) → AtMostOne (UnlessSome Applies x Rest)
@@ -72,21 +73,22 @@ module _ (I J : ℕ) (bytes : List ℕ) where
 
 -- ---- the paper's numbers and values tell the answers apart
 
-answer_of : Reply → JoinReply
+answer_of : Reply → Result Unit JoinError
 answer_of (reply n vs) =
-    cond (eqb n 0) Done (cond (eqb n 2) Length (cond (eqb n 4) (Loop (get_or vs 0 0) (get_or vs 1 0) (get_or vs 2 0)) (cond (eqb n 8) (Record (get_or vs 0 0)) (Layout (get_or vs 0 0)))))
+    cond (eqb n 0) (Ok tt)
+    (Err (cond (eqb n 2) Length (cond (eqb n 4) (Loop (get_or vs 0 0) (get_or vs 1 0) (get_or vs 2 0)) (cond (eqb n 8) (Record (get_or vs 0 0)) (Layout (get_or vs 0 0))))))
 
-answer_back : (r : JoinReply) → answer_of (join_reply r) ≡ r
+answer_back : (r : Result Unit JoinError) → answer_of (join_reply r) ≡ r
 unfolding answer_of
-answer_back Done = refl
-answer_back (Layout byte) = refl
-answer_back (Record byte) = refl
-answer_back Length = refl
-answer_back (Loop tile border exits) = refl
+answer_back (Ok done) = refl
+answer_back (Err (Layout byte)) = refl
+answer_back (Err (Record byte)) = refl
+answer_back (Err Length) = refl
+answer_back (Err (Loop tile border exits)) = refl
 
 -- an answer with the buffers that it leaves
 pub record Answer : Type 0 where
-  pub answer : JoinReply
+  pub answer : Result Unit JoinError
   pub incoming_after : List ℕ
   pub work_after : Work
 

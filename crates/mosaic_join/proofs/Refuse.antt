@@ -1,42 +1,40 @@
 -- The refusals before joining begins, from the mosaic's own numbers and from what reading says.
 -- Assumes nothing.
+use mathlib.Core.Bool.{Bool, true, false, true≢false}
 use mathlib.Core.List.{List, [], ◌∷◌}
-use mathlib.Core.Path.{◌≡◌, sym, ap, subst}
+use mathlib.Core.Path.{◌≡◌, sym, ap, subst, ◌∙◌}
 use Prim.Native.Nat.{ℕ, zero, suc, ◌+◌, ◌*◌, ◌/◌, ◌%◌, ◌<◌, ◌≤◌}
 use native.Mathlib.Omega.{arith}
-use native.Mathlib.Nat.{mul-le-mul, le_refl}
+use native.Mathlib.Nat.{mul-le-mul}
 use lib.ListN.{length}
 use Rattle.flow.specs.Net.{sum}
 use Rattle.promise.specs.Links.Unless.{refused, met}
 use Rattle.promise.specs.Links.UnlessAll.{refused_at, met_all}
 use Rattle.promise.specs.Reply.{Reply, number_of}
 use Rattle.promise.specs.Reply.Reply.{reply}
-use Rattle.mosaic_read.specs.Read.{MosaicShape, fault_at, UnlessRecords, ReadPromise}
+use Rattle.mosaic_read.specs.Read.{MosaicShape, fault_at, fault_reply, UnlessRecords, ReadPromise}
 use Rattle.mosaic_read.specs.Records.{borders_of, start_of, PartOk}
+use Rattle.mosaic_read.specs.Method.{Says}
+use Rattle.mosaic_read.specs.declared.ReadError.{ReadError}
+use Rattle.mosaic_read.specs.declared.ReadError.TheVariants.{Record, Layout}
+use Rattle.sheet.specs.Shape.{within}
+use Rattle.sheet.proofs.Places.{within_true, true_within}
 use Rattle.mosaic_step.specs.Table.{WellFormed}
 
 -- ---- the mosaic's own numbers
 
-module _ (I J : ℕ) where
-  pub rows_many : 64 < I → MosaicShape I J → ⊥
-  rows_many l s = let m : I * 1 ≤ I * J = mul-le-mul (le_refl I) s.some_col in omega (arith, s.tiles_most)
-
-  pub cols_many : 64 < J → MosaicShape I J → ⊥
-  cols_many l s = let m : 1 * J ≤ I * J = mul-le-mul s.some_row (le_refl J) in omega (arith, s.tiles_most)
-
-  pub tiles_none : I * J ≡ 0 → MosaicShape I J → ⊥
-  tiles_none e s = let m : 1 * 1 ≤ I * J = mul-le-mul s.some_row s.some_col in omega arith
-
-  pub tiles_many : 64 < I * J → MosaicShape I J → ⊥
-  tiles_many l s = omega (arith, s.tiles_most)
-
-pub tiles_small : (I J : ℕ) → I ≤ 64 → J ≤ 64 → I * J ≤ 4096
-tiles_small I J r c = let m : I * J ≤ 64 * 64 = mul-le-mul r c in omega arith
-
-pub shape_of : (I J : ℕ) → (I * J ≡ 0 → ⊥) → I * J ≤ 64 → MosaicShape I J
+shape_of : (I J : ℕ) → (I * J ≡ 0 → ⊥) → I * J ≤ 64 → MosaicShape I J
 shape_of zero J d l = absurd (d (omega arith))
 shape_of (suc I) zero d l = absurd (d (omega arith))
 shape_of (suc I) (suc J) d l = record { some_row = omega arith; some_col = omega arith; tiles_most = l }
+
+module _ (I J : ℕ) where
+  -- 1 to 64 tiles
+  pub shape_says : {n : ℕ} → n ≡ I * J → (b : Bool) → b ≡ within n 64 → Says (MosaicShape I J) b
+  shape_says {n} is true e = (let k = within_true n 64 (sym e) in shape_of I J (λ z. omega arith) (omega arith))
+  shape_says {n} is false e = λ s.
+      let some : 1 * 1 ≤ I * J = mul-le-mul s.some_row s.some_col in
+      absurd (true≢false (sym (true_within n 64 (omega arith) (omega (arith, s.tiles_most))) ∙ sym e))
 
 -- ---- reading
 
@@ -46,6 +44,10 @@ fault_said bytes t zero e = omega arith
 fault_said bytes t (suc zero) e = omega arith
 fault_said bytes t (suc (suc zero)) e = omega arith
 fault_said bytes t (suc (suc (suc more))) e = omega arith
+
+pub refusal_said : (e : ReadError) → number_of (fault_reply e) ≡ 0 → ⊥
+refusal_said (Record byte) z = omega arith
+refusal_said (Layout byte) z = omega arith
 
 module _ (I J : ℕ) (bytes : List ℕ) where
   -- a refusal of reading is one of joining

@@ -1,7 +1,7 @@
 -- The promise of joining the border records of a mosaic (paper 01, "Replies and what remains"): 9 for the mosaic's own numbers, records in turn with 8 or
 -- 9, 2, 4, done.
 -- Assumes nothing.
-use Rattle.std.specs.Prelude.{List, [], ◌∷◌, ◌≡◌, ℕ, ◌<◌, length, replicate}
+use Rattle.std.specs.Prelude.{Result, Ok, Err, List, [], ◌∷◌, ◌≡◌, ℕ, ◌<◌, length, replicate}
 use Rattle.flow.specs.Net.{FirstLoop}
 use Rattle.mosaic.specs.Join.{Totals, comes_in}
 use Rattle.mosaic_read.specs.Read.{MosaicShape, UnlessRecords}
@@ -11,16 +11,19 @@ use Rattle.promise.specs.Links.{Unless, UnlessSome, ◌then◌}
 use Rattle.promise.specs.Reply.{Reply}
 use Rattle.promise.specs.Reply.Reply.{reply}
 use Rattle.sheet.specs.Sheet.{LoopFound, count_at}
-use Rattle.mosaic_join.specs.declared.JoinReply.{JoinReply}
-use Rattle.mosaic_join.specs.declared.JoinReply.TheVariants.{Done, Layout, Record, Length, Loop}
+use Rattle.mosaic_join.specs.declared.JoinError.{JoinError}
+use Rattle.mosaic_join.specs.declared.JoinError.TheVariants.{Layout, Record, Length, Loop}
 
 -- the paper's number and values for each answer
-abbrev pub join_reply : JoinReply → Reply
-join_reply Done = reply 0 []
-join_reply (Layout byte) = reply 9 (byte ∷ [])
-join_reply (Record byte) = reply 8 (byte ∷ [])
-join_reply Length = reply 2 []
-join_reply (Loop tile border exits) = reply 4 (tile ∷ border ∷ exits ∷ [])
+abbrev pub refusal_reply : JoinError → Reply
+refusal_reply (Layout byte) = reply 9 (byte ∷ [])
+refusal_reply (Record byte) = reply 8 (byte ∷ [])
+refusal_reply Length = reply 2 []
+refusal_reply (Loop tile border exits) = reply 4 (tile ∷ border ∷ exits ∷ [])
+
+abbrev pub join_reply : Result Unit JoinError → Reply
+join_reply (Ok done) = reply 0 []
+join_reply (Err e) = refusal_reply e
 
 -- the work buffers
 pub record Work : Type 0 where

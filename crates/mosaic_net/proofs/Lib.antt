@@ -2,5 +2,4 @@ pub mod Filled
 pub mod Told
 pub mod Poured
 pub mod Marks
-pub mod At
 pub mod Fed

@@ -1,1 +1,2 @@
 pub mod Method
+pub mod Net

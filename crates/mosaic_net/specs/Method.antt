@@ -1,10 +1,10 @@
 -- What the functions that write the net of the exits promise each other and the crate that calls them. Nothing here is cited by a public promise.
 -- Assumes nothing.
-use Rattle.std.specs.Prelude.{cond, ◌&&◌, List, ◌≡◌, ℕ, ◌+◌, ◌*◌, ◌<◌, ltb, length}
+use Rattle.std.specs.Prelude.{cond, ◌&&◌, List, ◌≡◌, ℕ, ◌+◌, ◌<◌, ltb, length}
 use Rattle.sheet.specs.Sheet.{count_at}
 use Rattle.mosaic.specs.Join.{is_land, exit_at, onto, leads_to, own}
 use Rattle.mosaic.specs.Layout.{borders_before, all_borders}
-use Rattle.mosaic_read.specs.Records.{start_of, borders_of, heights, widths}
+use Rattle.mosaic_read.specs.Records.{heights, widths}
 use Rattle.mosaic_read.specs.Said.{borders, feeds_by, said_count, said_way, said_code}
 use Rattle.mosaic_step.specs.Table.{Table}
 
@@ -40,13 +40,6 @@ module _ (I J : ℕ) (bytes : List ℕ) where
   -- the number of tile t's first border cell
   abbrev pub first_of : ℕ → ℕ
   first_of t = borders_before J (heights bytes J) (widths bytes) t
-
-  -- the record of tile t begins at byte o, and tells of n border cells, the first of which has the number `first` in the mosaic
-  pub record RecordAt (t o n first : ℕ) : Type 0 where
-    pub tile : t < I * J
-    pub start : o ≡ start_of bytes t
-    pub size : n ≡ borders_of bytes t
-    pub first_is : first ≡ first_of t
 
   -- the net of the exits is written down: what each border cell pours onto, what it feeds, its own count; and the table of records
   pub record NetWritten (pours feeds own table : List ℕ) : Type 0 where

@@ -4,40 +4,44 @@
 
 mod leads;
 mod pours;
+mod write;
 
 ghost use Rattle.std.specs.Prelude.{◌≡◌, length, replicate};
-ghost use Rattle.mosaic_read.specs.Said.{borders};
-ghost use Rattle.mosaic_step.specs.Table.{WellFormed};
-ghost use Rattle.mosaic_net.specs.Method.{NetWritten};
+ghost use Rattle.mosaic_step.specs.Mosaic.{all_in};
+ghost use Rattle.mosaic_net.specs.Net.{NetOf};
 
-use crate::leads::fill_leads;
-use crate::pours::{fill_feeds, fill_pours};
+use crate::leads::Leads;
+use crate::pours::{Own, Pours, fill_feeds};
+use crate::write::fill;
+use mosaic_step::mosaic::Mosaic;
 use mosaic_step::table::fill_table;
-use sheet::totals::clear;
+use mosaic_step::tiles::Tiles;
 
 // Writes down the net of the exits. Where border cells lead is written first, for the others to be found by, and cleared at last.
 pub fn write_net(
-    tile_rows: usize,
-    tile_cols: usize,
-    records: &[u8],
+    mosaic: &Mosaic,
     leads: &mut [u32],
     pours: &mut [u32],
     feeds: &mut [u32],
     own: &mut [u32],
     table: &mut [u32],
 )
-    requires well_formed { WellFormed tile_rows tile_cols records.now }
-    requires leads_len { length leads.old ≡ borders tile_rows tile_cols records.now }
-    requires pours_len { length pours.old ≡ borders tile_rows tile_cols records.now }
-    requires feeds_len { length feeds.old ≡ borders tile_rows tile_cols records.now }
-    requires own_len { length own.old ≡ borders tile_rows tile_cols records.now }
+    requires leads_len { length leads.old ≡ all_in mosaic.now }
+    requires pours_len { length pours.old ≡ all_in mosaic.now }
+    requires feeds_len { length feeds.old ≡ all_in mosaic.now }
+    requires own_len { length own.old ≡ all_in mosaic.now }
     requires table_len { length table.old ≡ 128 }
-    ensures net_written { NetWritten tile_rows tile_cols records.now pours.new feeds.new own.new table.new }
-    ensures leads_after { leads.new ≡ replicate (borders tile_rows tile_cols records.now) 0 }
+    ensures net_written { NetOf mosaic.now pours.new feeds.new own.new table.new }
+    ensures leads_after { leads.new ≡ replicate (all_in mosaic.now) 0 }
 {
-    fill_table(tile_rows, tile_cols, records, table);
-    fill_leads(tile_rows, tile_cols, records, table, leads);
-    fill_pours(tile_rows, tile_cols, records, table, leads, pours, own);
+    fill_table(mosaic, table);
+    let tiles = Tiles {
+        mosaic: *mosaic,
+        table,
+    };
+    fill(&tiles, &Leads { none: leads.len() }, leads);
+    fill(&tiles, &Pours { leads }, pours);
+    fill(&tiles, &Own, own);
     fill_feeds(leads, pours, feeds);
-    clear(leads);
+    leads.fill(0);
 }

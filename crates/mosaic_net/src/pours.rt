@@ -1,134 +1,63 @@
 // What the exits of a mosaic pour onto, and their own counts; then what each exit feeds.
-ghost use Rattle.std.specs.Prelude.{◌≡◌, ◌+◌, ◌*◌, ◌<◌, ◌≤◌, length};
-ghost use Rattle.mosaic_step.specs.Exit.{TileIs};
-ghost use Rattle.mosaic_step.specs.Table.{WellFormed, Table};
-ghost use Rattle.mosaic_read.specs.Said.{borders};
-ghost use Rattle.mosaic_net.specs.Method.{Filled, RecordAt, leads_by, pours_by, own_by, first_of, feed_at};
+ghost use Rattle.std.specs.Prelude.{◌≡◌, ◌+◌, ◌<◌, ◌≤◌, length};
+ghost use Rattle.sheet.specs.Grid.{LeadsTo};
+ghost use Rattle.mosaic_step.specs.Mosaic.{all_in};
+ghost use Rattle.mosaic_net.specs.Method.{Filled, feed_at};
+ghost use Rattle.mosaic_net.specs.Net.{AllFilled, leads_in, pours_in, own_in};
 
-use mosaic_read::bytes::{cell_count, cell_way};
-use mosaic_step::onto;
-use mosaic_step::table::{borders_at, first_border, tile_start};
+use crate::write::Told;
+use mosaic_step::tiles::MosaicTile;
 
-// The border cell that border cell b of tile t pours onto: land that it steps onto as an exit, or the number of all border cells.
-fn pour(
-    tile_rows: usize,
-    tile_cols: usize,
-    records: &[u8],
-    table: &[u32],
-    leads: &[u32],
-    t: usize,
-    tile_row: usize,
-    tile_col: usize,
-    o: usize,
-    n: usize,
-    first: usize,
-    b: usize,
-) -> usize
-    requires well_formed { WellFormed tile_rows tile_cols records.now }
-    requires table { Table tile_rows tile_cols records.now table.now }
-    requires filled { Filled (borders tile_rows tile_cols records.now) (leads_by tile_rows tile_cols records.now) leads.now (borders tile_rows tile_cols records.now) }
-    requires tile_is { TileIs tile_rows tile_cols t tile_row tile_col }
-    requires record_at { RecordAt tile_rows tile_cols records.now t o n first }
-    requires b_lt_n { b < n }
-    ensures value { result ≡ pours_by tile_rows tile_cols records.now (first + b) }
-    ensures upper_bound { result ≤ borders tile_rows tile_cols records.now }
+// The border cell that border cell b of a tile pours onto: land that it steps onto as an exit. Where border cells lead tells what is land.
+fn pour(tile: &MosaicTile, leads: &[u32], b: usize) -> Option<usize>
+    requires leads { AllFilled tile.now.tiles.mosaic (leads_in tile.now.tiles.mosaic) leads.now }
+    requires border { b < tile.now.border.borders }
+    ensures { LeadsTo (all_in tile.now.tiles.mosaic) (pours_in tile.now.tiles.mosaic (tile.now.first + b)) result }
 {
+    if tile.border.way(b) != b {
+        return None;
+    }
+    let h = tile.onto(b)?;
     let none = leads.len();
-    if cell_way(records, o, n, b) != b {
-        return none;
-    }
-    let h = onto(
-        tile_rows, tile_cols, records, table, none, t, tile_row, tile_col, b,
-    );
-    if none <= h {
-        return none;
-    }
     if none < leads[h] as usize {
-        return none;
+        return None;
     }
-    h
+    Some(h)
 }
 
-// The own count of border cell b of the tile whose record begins at byte o, where it is an exit.
-fn own_count(
-    tile_rows: usize,
-    tile_cols: usize,
-    records: &[u8],
-    t: usize,
-    o: usize,
-    n: usize,
-    first: usize,
-    b: usize,
-) -> u32
-    requires well_formed { WellFormed tile_rows tile_cols records.now }
-    requires record_at { RecordAt tile_rows tile_cols records.now t o n first }
-    requires b_lt_n { b < n }
-    ensures { result ≡ own_by tile_rows tile_cols records.now (first + b) }
-{
-    if cell_way(records, o, n, b) != b {
-        return 0;
-    }
-    cell_count(records, o, b)
+// What a border cell pours onto, or the number of all border cells, by where they lead.
+#[derive(Clone, Copy)]
+pub struct Pours<'a> {
+    pub leads: &'a [u32],
 }
 
-// Writes what the border cells of tile t pour onto, and their own counts.
-fn pour_tile(
-    tile_rows: usize,
-    tile_cols: usize,
-    records: &[u8],
-    table: &[u32],
-    leads: &[u32],
-    t: usize,
-    pours: &mut [u32],
-    own: &mut [u32],
-)
-    requires well_formed { WellFormed tile_rows tile_cols records.now }
-    requires table { Table tile_rows tile_cols records.now table.now }
-    requires filled { Filled (borders tile_rows tile_cols records.now) (leads_by tile_rows tile_cols records.now) leads.now (borders tile_rows tile_cols records.now) }
-    requires t_bound { t < tile_rows * tile_cols }
-    requires pours_so_far { Filled (borders tile_rows tile_cols records.now) (pours_by tile_rows tile_cols records.now) pours.old (first_of tile_rows tile_cols records.now t) }
-    requires own_so_far { Filled (borders tile_rows tile_cols records.now) (own_by tile_rows tile_cols records.now) own.old (first_of tile_rows tile_cols records.now t) }
-    ensures pours_filled { Filled (borders tile_rows tile_cols records.now) (pours_by tile_rows tile_cols records.now) pours.new (first_of tile_rows tile_cols records.now (t + 1)) }
-    ensures own_filled { Filled (borders tile_rows tile_cols records.now) (own_by tile_rows tile_cols records.now) own.new (first_of tile_rows tile_cols records.now (t + 1)) }
-{
-    let tile_row = t / tile_cols;
-    let tile_col = t % tile_cols;
-    let o = tile_start(table, t);
-    let n = borders_at(records, o);
-    let first = first_border(table, t);
-    let mut b = 0;
-    while b < n {
-        let h = pour(
-            tile_rows, tile_cols, records, table, leads, t, tile_row, tile_col, o, n, first, b,
-        );
-        pours[first + b] = h as u32;
-        own[first + b] = own_count(tile_rows, tile_cols, records, t, o, n, first, b);
-        b += 1;
+impl Told for Pours<'_> {
+    ghost fits = { λ s m. AllFilled m (leads_in m) s.leads.now };
+
+    ghost tells = { λ _ m. pours_in m };
+
+    fn tell(&self, tile: &MosaicTile, b: usize) -> u32 {
+        match pour(tile, self.leads, b) {
+            Some(h) => h as u32,
+            None => self.leads.len() as u32,
+        }
     }
 }
 
-// Writes what all border cells pour onto, and their own counts.
-pub fn fill_pours(
-    tile_rows: usize,
-    tile_cols: usize,
-    records: &[u8],
-    table: &[u32],
-    leads: &[u32],
-    pours: &mut [u32],
-    own: &mut [u32],
-)
-    requires well_formed { WellFormed tile_rows tile_cols records.now }
-    requires table { Table tile_rows tile_cols records.now table.now }
-    requires filled { Filled (borders tile_rows tile_cols records.now) (leads_by tile_rows tile_cols records.now) leads.now (borders tile_rows tile_cols records.now) }
-    requires pours_len { (length pours.old ≡ borders tile_rows tile_cols records.now) × (length own.old ≡ borders tile_rows tile_cols records.now) }
-    ensures pours_filled { Filled (borders tile_rows tile_cols records.now) (pours_by tile_rows tile_cols records.now) pours.new (borders tile_rows tile_cols records.now) }
-    ensures own_filled { Filled (borders tile_rows tile_cols records.now) (own_by tile_rows tile_cols records.now) own.new (borders tile_rows tile_cols records.now) }
-{
-    let tiles = tile_rows * tile_cols;
-    let mut t = 0;
-    while t < tiles {
-        pour_tile(tile_rows, tile_cols, records, table, leads, t, pours, own);
-        t += 1;
+// The own count of an exit, and 0 of a border cell that is none.
+#[derive(Clone, Copy)]
+pub struct Own;
+
+impl Told for Own {
+    ghost fits = { λ _ _. Unit {0} };
+
+    ghost tells = { λ _ m. own_in m };
+
+    fn tell(&self, tile: &MosaicTile, b: usize) -> u32 {
+        if tile.border.way(b) != b {
+            return 0;
+        }
+        tile.border.count(b)
     }
 }
 
@@ -152,9 +81,7 @@ pub fn fill_feeds(leads: &[u32], pours: &[u32], feeds: &mut [u32])
     requires feeds_len { length feeds.old ≡ length pours.now }
     ensures { Filled (length pours.now) (feed_at leads.now pours.now) feeds.new (length pours.now) }
 {
-    let mut g = 0;
-    while g < feeds.len() {
-        feeds[g] = feed(leads, pours, g);
-        g += 1;
+    for (g, exit) in feeds.iter_mut().enumerate() {
+        *exit = feed(leads, pours, g);
     }
 }

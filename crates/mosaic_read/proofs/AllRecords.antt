@@ -3,20 +3,19 @@
 use mathlib.Core.List.{List, [], ◌∷◌}
 use mathlib.Core.Logic.{inl, inr}
 use mathlib.Core.Path.{◌≡◌, refl, sym, ap, ap₂, ◌∙◌, transport}
-use Prim.Native.Nat.{ℕ, zero, suc, ◌+◌, ◌*◌, ◌/◌, ◌%◌, ◌<◌}
+use Prim.Native.Nat.{ℕ, ◌+◌, ◌*◌, ◌/◌, ◌%◌, ◌<◌}
 use native.Mathlib.Omega.{arith}
-use lib.ListN.{length, get_or}
+use lib.ListN.{length}
 use Rattle.flow.specs.Net.{sum}
 use Rattle.flow.proofs.Walk.{below}
 use Rattle.promise.specs.Links.{FirstNot}
 use Rattle.promise.specs.Links.Unless.{refused, met}
 use Rattle.promise.specs.Links.UnlessAll.{refused_at, met_all}
-use Rattle.promise.specs.Reply.{Reply, number_of}
 use Rattle.promise.specs.Reply.Reply.{reply}
-use Rattle.promise.proofs.Apart.{values_same}
 use Rattle.mosaic_read.specs.Records.{start_of, borders_of, PartOk, RecordOk}
-use Rattle.mosaic_read.specs.Read.{fault_at, ReadPromise}
-use Rattle.mosaic_read.specs.Method.{ReadOnePromise}
+use Rattle.mosaic_read.specs.Read.{fault_at, fault_reply, ReadPromise}
+use Rattle.mosaic_read.specs.Method.{FirstFault}
+use Rattle.mosaic_read.specs.declared.ReadError.{ReadError}
 use Rattle.mosaic_read.proofs.OneRecord.{record_parts, parts_record}
 
 -- the first k records are well formed
@@ -58,22 +57,11 @@ module _ (bytes : List ℕ) (J : ℕ) where
     before = λ m lm. before_part t p ok f.before m lm f.inside;
   }
 
-  pub fault_number : (t p : ℕ) → number_of (fault_at bytes t p) ≡ 0 → ⊥
-  fault_number t zero e = omega arith
-  fault_number t (suc zero) e = omega arith
-  fault_number t (suc (suc zero)) e = omega arith
-  fault_number t (suc (suc (suc more))) e = omega arith
-
   -- a fault of record t is the first fault
-  pub read_fault : (I t : ℕ) {x : Reply} → t < I * J → AllOk bytes J t → (number_of x ≡ 0 → ⊥) → ReadOnePromise bytes J t x → ReadPromise I J bytes x
-  read_fault I t l ok n (refused_at p f e) =
-      refused_at (4 * t + p) (fault_first (I * J) t p l ok f) (e ∙ sym (ap₂ (fault_at bytes) (record_of_lem t p f.inside) (part_of t p f.inside)))
-  read_fault I t l ok n (met_all a e) = absurd (n (ap number_of e))
-
-  -- record t is well formed
-  pub read_next : (t B : ℕ) → ReadOnePromise bytes J t (reply 0 (B ∷ [])) → RecordOk bytes J t × (B ≡ borders_of bytes t)
-  read_next t B (refused_at p f e) = absurd (fault_number t p (sym (ap number_of e)))
-  read_next t B (met_all a e) = (parts_record a, ap (λ l. get_or l 0 0) (values_same e))
+  pub read_fault : (I t : ℕ) {e : ReadError} → t < I * J → AllOk bytes J t → FirstFault bytes J t e → ReadPromise I J bytes (fault_reply e)
+  read_fault I t l ok f =
+      let p = f.part in
+      refused_at (4 * t + p) (fault_first (I * J) t p l ok f.first) (f.told ∙ sym (ap₂ (fault_at bytes) (record_of_lem t p f.first.inside) (part_of t p f.first.inside)))
 
   -- ---- all records are well formed
 

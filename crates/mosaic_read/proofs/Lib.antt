@@ -1,5 +1,6 @@
 pub mod Tests
 pub mod Starts
+pub mod Sides
 pub mod Placed
 pub mod Ways
 pub mod OneRecord

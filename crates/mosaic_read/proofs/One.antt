@@ -1,4 +1,4 @@
--- The promise of reading admits one outcome only: one reply, and one answer of the enum.
+-- The promise of reading admits one outcome only: one reply, and one answer of the code.
 -- Assumes nothing.
 use mathlib.Core.Bool.{cond}
 use mathlib.Core.List.{List, [], ◌∷◌}
@@ -6,6 +6,7 @@ use mathlib.Core.Path.{◌≡◌, refl}
 use Prim.Native.Nat.{ℕ, ◌*◌}
 use lib.Dec.{eqb}
 use lib.ListN.{get_or}
+use Rattle.std.proofs.Common.{Result, Ok, Err}
 use Rattle.flow.specs.Net.{sum}
 use Rattle.promise.specs.Links.{AtMostOne}
 use Rattle.promise.specs.Reply.{Reply}
@@ -13,18 +14,18 @@ use Rattle.promise.specs.Reply.Reply.{reply}
 use Rattle.promise.proofs.One.{is_one, unless_one, unless_all_one, one_value}
 use Rattle.mosaic_read.specs.Records.{borders_of}
 use Rattle.mosaic_read.specs.Read.{UnlessRecords, ReadPromise, read_reply}
-use Rattle.mosaic_read.specs.declared.ReadReply.{ReadReply}
-use Rattle.mosaic_read.specs.declared.ReadReply.TheVariants.{Good, Record, Layout}
+use Rattle.mosaic_read.specs.declared.ReadError.{ReadError}
+use Rattle.mosaic_read.specs.declared.ReadError.TheVariants.{Record, Layout}
 
 -- the paper's number and values tell the answers apart
-answer_of : Reply → ReadReply
-answer_of (reply n vs) = cond (eqb n 0) (Good (get_or vs 0 0)) (cond (eqb n 8) (Record (get_or vs 0 0)) (Layout (get_or vs 0 0)))
+answer_of : Reply → Result ℕ ReadError
+answer_of (reply n vs) = cond (eqb n 0) (Ok (get_or vs 0 0)) (Err (cond (eqb n 8) (Record (get_or vs 0 0)) (Layout (get_or vs 0 0))))
 
-answer_back : (r : ReadReply) → answer_of (read_reply r) ≡ r
+answer_back : (r : Result ℕ ReadError) → answer_of (read_reply r) ≡ r
 unfolding answer_of
-answer_back (Good borders) = refl
-answer_back (Record byte) = refl
-answer_back (Layout byte) = refl
+answer_back (Ok borders) = refl
+answer_back (Err (Record byte)) = refl
+answer_back (Err (Layout byte)) = refl
 
 module _ (I J : ℕ) (bytes : List ℕ) where
   -- of a chain that has these refusals

@@ -12,10 +12,13 @@ use Rattle.flow.specs.Net.{sum}
 use Rattle.flow.proofs.Sum.{sum_suc, sum_next}
 use Rattle.sheet.proofs.Places.{row_of, col_of}
 use Rattle.mosaic.proofs.Pieces.{spot_is}
-use Rattle.mosaic_read.specs.Records.{start_of, rows_at, cols_at, borders_of, heights, widths, RecordOk}
-use Rattle.mosaic_read.specs.Method.{Whole, Reached}
-use Rattle.mosaic_read.proofs.Starts.{start_none, start_next}
+use Rattle.mosaic_read.specs.BorderRecord.{IsAt, Inside, record_end}
+use Rattle.mosaic_read.specs.Records.{start_of, heights, widths, RecordOk}
+use Rattle.mosaic_read.specs.Method.{Reached}
+use Rattle.mosaic_read.specs.declared.record.BorderRecord.{BorderRecord}
 use Rattle.mosaic_read.proofs.OneRecord.{record_whole}
+use Rattle.mosaic_read.proofs.Sides.{rows_are, cols_are, end_is}
+use Rattle.mosaic_read.proofs.Starts.{start_none, start_sum}
 
 -- the tile row and the tile column of the next record
 pub turn_row : (J t : ℕ) → 1 ≤ J → t % J + 1 ≡ J → ((t + 1) / J ≡ t / J + 1) × ((t + 1) % J ≡ 0)
@@ -43,48 +46,56 @@ reached_none bytes J some =
       left_most = omega arith;
     }
 
--- past record t
-module _ {bytes : List ℕ} {J t o above left rows cols B : ℕ} (r : Reached bytes J t o above left) (ok : RecordOk bytes J t)
-    (rows_is : rows ≡ rows_at bytes o) (cols_is : cols ≡ cols_at bytes o) (borders_is : B ≡ borders_of bytes t) where
-  pub next_inside : o + 17 + 7 * B ≤ length bytes
-  next_inside = omega (arith, r.start, borders_is, ok.ways.inside)
+-- past record t, as it is read
+module _ {bytes : List ℕ} {J t o above left : ℕ} (r : Reached bytes J t o above left) (ok : RecordOk bytes J t) {b : BorderRecord} (at : IsAt bytes o b) where
+  -- records are no more than bytes
+  pub few : t ≤ length bytes
+  few = omega (arith, r.start, start_sum bytes t, ok.sides.inside)
 
-  pub above_fits : above + rows ≤ 4096
-  above_fits = omega (arith, r.above_is, rows_is ∙ ap (rows_at bytes) r.start ∙ ok.placed.height, ok.placed.rows_most, sum_suc (t / J) (heights bytes J))
+  pub end_inside : Inside b
+  end_inside = rw (at.bytes_are, end_is at t r.start) (record_whole ok).inside
 
-  pub left_fits : left + cols ≤ 4096
-  left_fits = omega (arith, r.left_is, cols_is ∙ ap (cols_at bytes) r.start ∙ ok.placed.width, ok.placed.cols_most, sum_suc (t % J) (widths bytes))
+  high : b.tile.rows ≡ heights bytes J (t / J)
+  high = rows_are at t r.start ∙ ok.placed.height
 
-  next_start : o + 17 + 7 * B ≡ start_of bytes (t + 1)
-  next_start = omega (arith, r.start, borders_is, start_next bytes t, ap (start_of bytes) (add-one t))
+  wide : b.tile.cols ≡ widths bytes (t % J)
+  wide = cols_are at t r.start ∙ ok.placed.width
 
-  -- the next tile row
-  pub reached_row : t % J + 1 ≡ J → Reached bytes J (t + 1) (o + 17 + 7 * B) (above + rows) 0
-  unfolding sum
-  reached_row e =
-      let turn = turn_row J t r.some_col e in
-      let high : rows ≡ heights bytes J (t / J) = rows_is ∙ ap (rows_at bytes) r.start ∙ ok.placed.height in
-      record {
-        some_col = r.some_col;
-        before = below_more (Whole bytes) t r.before (record_whole ok);
-        start = next_start;
-        above_is = omega (arith, r.above_is, high, sum_next (t / J) (heights bytes J), ap (λ (x : ℕ). sum x (heights bytes J)) turn.0);
-        left_is = sym (ap (λ (x : ℕ). sum x (widths bytes)) turn.1);
-        above_most = above_fits;
-        left_most = omega arith;
-      }
+  pub above_fits : above + b.tile.rows ≤ 4096
+  above_fits = omega (arith, r.above_is, high, ok.placed.rows_most, sum_suc (t / J) (heights bytes J))
 
-  -- the next tile column
-  pub reached_col : (t % J + 1 ≡ J → ⊥) → Reached bytes J (t + 1) (o + 17 + 7 * B) above (left + cols)
-  reached_col n =
-      let turn = turn_col J t (omega (arith, mod-lt t r.some_col)) in
-      let wide : cols ≡ widths bytes (t % J) = cols_is ∙ ap (cols_at bytes) r.start ∙ ok.placed.width in
-      record {
-        some_col = r.some_col;
-        before = below_more (Whole bytes) t r.before (record_whole ok);
-        start = next_start;
-        above_is = r.above_is ∙ sym (ap (λ (x : ℕ). sum x (heights bytes J)) turn.0);
-        left_is = omega (arith, r.left_is, wide, sum_next (t % J) (widths bytes), ap (λ (x : ℕ). sum x (widths bytes)) turn.1);
-        above_most = r.above_most;
-        left_most = left_fits;
-      }
+  pub left_fits : left + b.tile.cols ≤ 4096
+  left_fits = omega (arith, r.left_is, wide, ok.placed.cols_most, sum_suc (t % J) (widths bytes))
+
+  module _ {end : ℕ} (e : end ≡ record_end b) where
+    next_start : end ≡ start_of bytes (t + 1)
+    next_start = e ∙ end_is at t r.start ∙ ap (start_of bytes) (sym (add-one t))
+
+    -- the next tile row
+    pub reached_row : t % J + 1 ≡ J → Reached bytes J (t + 1) end (above + b.tile.rows) 0
+    unfolding sum
+    reached_row l =
+        let turn = turn_row J t r.some_col l in
+        record {
+          some_col = r.some_col;
+          before = below_more (RecordOk bytes J) t r.before ok;
+          start = next_start;
+          above_is = omega (arith, r.above_is, high, sum_next (t / J) (heights bytes J), ap (λ (x : ℕ). sum x (heights bytes J)) turn.0);
+          left_is = sym (ap (λ (x : ℕ). sum x (widths bytes)) turn.1);
+          above_most = above_fits;
+          left_most = omega arith;
+        }
+
+    -- the next tile column
+    pub reached_col : (t % J + 1 ≡ J → ⊥) → Reached bytes J (t + 1) end above (left + b.tile.cols)
+    reached_col n =
+        let turn = turn_col J t (omega (arith, mod-lt t r.some_col)) in
+        record {
+          some_col = r.some_col;
+          before = below_more (RecordOk bytes J) t r.before ok;
+          start = next_start;
+          above_is = r.above_is ∙ sym (ap (λ (x : ℕ). sum x (heights bytes J)) turn.0);
+          left_is = omega (arith, r.left_is, wide, sum_next (t % J) (widths bytes), ap (λ (x : ℕ). sum x (widths bytes)) turn.1);
+          above_most = r.above_most;
+          left_most = left_fits;
+        }

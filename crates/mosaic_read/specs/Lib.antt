@@ -2,3 +2,5 @@ pub mod Records
 pub mod Said
 pub mod Read
 pub mod Method
+pub mod BorderRecord
+pub mod Reading

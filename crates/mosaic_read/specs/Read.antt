@@ -1,14 +1,14 @@
 -- The promise of reading the records of a mosaic (paper 01, "Replies and what remains"): records in turn, 8 or 9 whichever is met first. Reading writes to
 -- no buffer, so an outcome is a reply. The refusals stand in a chain of their own, for every kind of outcome, so that joining has them among its own.
 -- Assumes nothing.
-use Rattle.std.specs.Prelude.{List, [], ◌∷◌, ◌≡◌, ℕ, zero, suc, ◌*◌, ◌/◌, ◌%◌, ◌≤◌, length}
+use Rattle.std.specs.Prelude.{Result, Ok, Err, List, [], ◌∷◌, ◌≡◌, ℕ, zero, suc, ◌*◌, ◌/◌, ◌%◌, ◌≤◌, length}
 use Rattle.flow.specs.Net.{sum}
 use Rattle.promise.specs.Links.{Unless, UnlessAll, Exactly, ◌then◌}
 use Rattle.promise.specs.Reply.{Reply}
 use Rattle.promise.specs.Reply.Reply.{reply}
 use Rattle.mosaic_read.specs.Records.{start_of, borders_of, counts_start, ways_start, PartOk}
-use Rattle.mosaic_read.specs.declared.ReadReply.{ReadReply}
-use Rattle.mosaic_read.specs.declared.ReadReply.TheVariants.{Good, Record, Layout}
+use Rattle.mosaic_read.specs.declared.ReadError.{ReadError}
+use Rattle.mosaic_read.specs.declared.ReadError.TheVariants.{Record, Layout}
 
 -- the mosaic's own numbers: at least one tile row and one tile column, at most 64 tiles
 pub record MosaicShape (I J : ℕ) : Type 0 where
@@ -17,10 +17,13 @@ pub record MosaicShape (I J : ℕ) : Type 0 where
   pub tiles_most : I * J ≤ 64
 
 -- the paper's number and values for each refusal; done, which is not one of the paper's, has the number of border cells
-abbrev pub read_reply : ReadReply → Reply
-read_reply (Good borders) = reply 0 (borders ∷ [])
-read_reply (Record byte) = reply 8 (byte ∷ [])
-read_reply (Layout byte) = reply 9 (byte ∷ [])
+abbrev pub fault_reply : ReadError → Reply
+fault_reply (Record byte) = reply 8 (byte ∷ [])
+fault_reply (Layout byte) = reply 9 (byte ∷ [])
+
+abbrev pub read_reply : Result ℕ ReadError → Reply
+read_reply (Ok borders) = reply 0 (borders ∷ [])
+read_reply (Err e) = fault_reply e
 
 -- the refusal of a part of record t that is not well formed: 8 at the first byte of the field at fault, 9 at the record's first byte
 abbrev pub fault_at : (bytes : List ℕ) (t part : ℕ) → Reply

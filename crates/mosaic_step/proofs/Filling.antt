@@ -3,7 +3,7 @@
 use mathlib.Core.List.{List}
 use mathlib.Core.Logic.{inl, inr}
 use mathlib.Core.Path.{◌≡◌, ◌∙◌}
-use Prim.Native.Nat.{ℕ, ◌+◌, ◌*◌, ◌≤◌, ◌<◌}
+use Prim.Native.Nat.{ℕ, ◌+◌, ◌*◌, ◌<◌}
 use native.Mathlib.Omega.{arith}
 use lib.ListN.{length, set, length-set}
 use lib.Seq.{get_or-set_same, get_or-set_other}
@@ -13,8 +13,7 @@ use Rattle.mosaic_read.specs.Records.{start_of, heights, widths}
 use Rattle.mosaic_step.specs.Table.{Filled}
 
 -- the first t tiles are done, the next record begins at byte o, and the number of its first border cell is `first`
-pub record Reached (tiles J : ℕ) (bytes table : List ℕ) (t o first : ℕ) : Type 0 where
-  pub among : t ≤ tiles
+pub record Reached (J : ℕ) (bytes table : List ℕ) (t o first : ℕ) : Type 0 where
   pub start : o ≡ start_of bytes t
   pub number : first ≡ borders_before J (heights bytes J) (widths bytes) t
   pub filled : Filled J bytes table t

@@ -1,6 +1,7 @@
 pub mod Known
 pub mod Moves
 pub mod Crossing
-pub mod Tabled
+pub mod OfTile
 pub mod Filling
 pub mod Sought
+pub mod Stepped

@@ -1,12 +1,14 @@
 -- A move by one along a line in pieces: one law for each way through the code that computes it, and that it is the move.
 -- Assumes nothing.
 use mathlib.Core.Logic.{◌⊎◌, inl, inr}
-use mathlib.Core.Path.{◌≡◌, ◌∙◌}
+use mathlib.Core.Path.{◌≡◌, sym, ◌∙◌}
 use Prim.Native.Nat.{ℕ, suc, ◌+◌, ◌-◌, ◌≤◌, ◌<◌}
 use native.Mathlib.Omega.{arith}
 use borrow.Author.Tests.{eq-eqb, ne_eqb, lt-ltb, le-ltb}
+use Rattle.std.proofs.Common.{Option, Some, None, SomeIff}
 use Rattle.flow.proofs.Sum.{same}
 use Rattle.flow.proofs.Walk.{below}
+use Rattle.sheet.specs.Grid.{LeadsTo}
 use Rattle.mosaic.proofs.Neighbours.{Moved, moved_within, moved_back, moved_on}
 use Rattle.mosaic_step.specs.Line.{piece_after, number_after}
 
@@ -26,6 +28,11 @@ module _ (pieces i long x : ℕ) where
   pub after_within : (x ≡ 0 → ⊥) → x ≤ long → piece_after pieces i long x ≡ i
   unfolding piece_after
   after_within z l = rw (ne_eqb x 0 z, le-ltb long x l)
+
+  -- a move back, from any piece but the first
+  pub after_less : x ≡ 0 → i < pieces → (r : Option ℕ) → SomeIff r (1 ≤ i) (i - 1) → LeadsTo pieces (piece_after pieces i long x) r
+  after_less z l None n = after_none z (omega (arith, n))
+  after_less z l (Some y) (p, e) = (e ∙ sym (after_back z (λ f. omega arith)), omega arith)
 
   -- what stays in its piece has not moved back
   pub stays_some : {j : ℕ} → i < pieces → j ≡ piece_after pieces i long x → i ≡ j → 1 ≤ x

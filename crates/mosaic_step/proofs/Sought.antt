@@ -2,28 +2,22 @@
 -- Assumes nothing.
 use mathlib.Core.Bool.{true}
 use mathlib.Core.List.{List}
-use mathlib.Core.Path.{◌≡◌, refl, sym, ap, ap₂, ◌∙◌}
+use mathlib.Core.Path.{◌≡◌, sym, ap, ap₂, ◌∙◌}
 use Prim.Native.Nat.{ℕ, ◌+◌, ◌*◌, ◌/◌, ◌%◌, ◌≤◌, ◌<◌}
 use native.Mathlib.Omega.{arith}
 use Rattle.sheet.specs.Compass.{is_arrow, step_of}
-use lib.ListN.{length}
-use Rattle.sheet.specs.Leaves.{Cell, SpotOf}
 use Rattle.sheet.specs.Sheet.{step_from}
-use Rattle.sheet.specs.declared.step.Spot.{Spot}
-use Rattle.tile.specs.Border.{edge_at, border_cells, border_number, border_place}
+use Rattle.tile.specs.Border.{border_place}
 use Rattle.mosaic.specs.Layout.{height_of, width_of, cells_in, borders_in, borders_before, all_borders, place_in}
 use Rattle.mosaic.specs.Join.{onto}
-use Rattle.mosaic.proofs.Pieces.{row_in, col_in}
 use Rattle.mosaic.proofs.Steps.{down, right}
-use Rattle.mosaic_read.specs.Records.{rows_at, cols_at, borders_of, heights, widths, cell_code, code_in, end_at}
+use Rattle.mosaic_read.specs.Records.{heights, widths, code_in}
 use Rattle.mosaic_read.specs.Said.{said_code}
-use Rattle.mosaic_read.proofs.Starts.{borders_read}
 use Rattle.mosaic_step.specs.Exit.{TileIs, Exit}
 use Rattle.mosaic_step.specs.Line.{piece_after, number_after}
-use Rattle.mosaic_step.specs.Table.{WellFormed, Table, start_in, first_in}
+use Rattle.mosaic_step.specs.Table.{WellFormed}
 use Rattle.mosaic_step.proofs.Crossing.{Found, cross_rows, cross_cols, cross_to}
-use Rattle.mosaic_step.proofs.Known.{height_is, width_is, borders_are, record_inside, said_code_lem, exit_arrow, exit_outside, height_some, width_some}
-use Rattle.mosaic_step.proofs.Tabled.{tabled_height, tabled_width}
+use Rattle.mosaic_step.proofs.Known.{height_is, width_is, borders_are, said_code_lem, exit_arrow, exit_outside, height_some, width_some}
 
 -- border cell b of tile t, a tile of rows by cols, stands in row r and column c, and its way has the code a
 pub record Standing (J : ℕ) (bytes : List ℕ) (t b rows cols r c a : ℕ) : Type 0 where
@@ -34,49 +28,13 @@ pub record Standing (J : ℕ) (bytes : List ℕ) (t b rows cols r c a : ℕ) : T
   pub col_in : c < cols
   pub code : a ≡ code_in bytes t b
 
--- so it was read
-module _ {I J : ℕ} {bytes table : List ℕ} {t i j b : ℕ} (w : WellFormed I J bytes) (tab : Table I J bytes table) (at : TileIs I J t i j) (e : Exit bytes t b)
-    {rows cols : ℕ} (h : rows ≡ rows_at bytes (start_in table t)) (v : cols ≡ cols_at bytes (start_in table t)) where
-  pub border_read : b < border_cells rows cols
-  border_read = omega (arith, e.border, borders_read bytes t (tab.starts t at.tile) h v refl)
-
-  module _ {o B : ℕ} (start : o ≡ start_in table t) (n : B ≡ border_cells rows cols) where
-    borders : B ≡ borders_of bytes t
-    borders = borders_read bytes t (tab.starts t at.tile) h v n
-
-    pub way_inside : (end_at o B ≤ length bytes) × (b < B)
-    way_inside = (omega (arith, borders, start, tab.starts t at.tile, record_inside w t at.tile), omega (arith, borders, e.border))
-
-    pub standing : {spot : Spot} {a : ℕ} → SpotOf rows cols spot (border_place rows cols b) → spot.row < rows → a ≡ cell_code bytes o B b
-        → Standing J bytes t b rows cols spot.row spot.col a
-    standing s l c = record {
-      height = h ∙ tabled_height w tab t at.tile;
-      width = v ∙ tabled_width w tab t at.tile;
-      place_is = s.place_is;
-      row_in = l;
-      col_in = s.col_in;
-      code = c ∙ ap₂ (λ (x y : ℕ). cell_code bytes x y b) (start ∙ tab.starts t at.tile) borders;
-    }
-
 -- the border cell that it steps onto
 abbrev pub sought_in : (I J : ℕ) → List ℕ → ℕ → ℕ → ℕ
 sought_in I J bytes t b = onto I J (heights bytes J) (widths bytes) (said_code bytes I J) (borders_before J (heights bytes J) (widths bytes) t + b)
 
-pub tile_row_in : {I J t i j : ℕ} → TileIs I J t i j → i < I
-tile_row_in {I} {J} {t} at = omega (arith, at.row, row_in I J t at.tile)
-
-pub tile_col_in : {I J t i j : ℕ} → TileIs I J t i j → j < J
-tile_col_in {I} {J} {t} at = omega (arith, at.col, col_in I J t at.tile)
-
 module _ {I J : ℕ} {bytes : List ℕ} {t i j b rows cols r c a : ℕ} (w : WellFormed I J bytes) (at : TileIs I J t i j) (e : Exit bytes t b) (s : Standing J bytes t b rows cols r c a) where
   pub exit_code : is_arrow a ≡ true
   exit_code = rw s.code (exit_arrow w t at.tile b e)
-
-  pub row_small : r < 4096
-  row_small = omega (arith, s.row_in, s.height, at.row, (height_some w (t / J) (row_in I J t at.tile)).1)
-
-  pub col_small : c < 4096
-  col_small = omega (arith, s.col_in, s.width, (width_some w (t % J) (col_in I J t at.tile)).1)
 
   -- ---- what the laws of crossing ask
 
@@ -133,26 +91,3 @@ module _ {I J : ℕ} {bytes : List ℕ} {t i j b rows cols r c a : ℕ} (w : Wel
           cross_to I J (heights bytes J) (widths bytes) (said_code bytes I J) t b r c a at.tile lb lr lc stands says exit_code outside tall wide u row_piece lk col_piece lm is
           (n ∙ ap₂ (λ (y z : ℕ). number_after i y k z) d h ∙ ap (λ (y : ℕ). number_after y (r + down a) k (height_of J (heights bytes J) u)) at.row)
           (o ∙ ap₂ (λ (y z : ℕ). number_after j y m z) v x ∙ ap (λ (y : ℕ). number_after y (c + right a) m (width_of J (widths bytes) u)) at.col)
-
--- ---- the border cell found, by the table
-
-module _ {I J : ℕ} {bytes table : List ℕ} {sought u r c : ℕ} (w : WellFormed I J bytes) (tab : Table I J bytes table) (f : Found I J (heights bytes J) (widths bytes) sought u r c) where
-  pub found_cell : Cell (rows_at bytes (start_in table u)) (cols_at bytes (start_in table u)) r c
-  found_cell =
-      let h = tabled_height w tab u f.tile in
-      let v = tabled_width w tab u f.tile in
-      record {
-        rows_fit = omega (arith, h, (height_some w (u / J) (row_in I J u f.tile)).1);
-        cols_fit = omega (arith, v, (width_some w (u % J) (col_in I J u f.tile)).1);
-        row_in = omega (arith, h, f.row_in);
-        col_in = omega (arith, v, f.col_in);
-      }
-
-  pub found_edge : edge_at (rows_at bytes (start_in table u)) (cols_at bytes (start_in table u)) r c ≡ true
-  found_edge = rw (tabled_height w tab u f.tile, tabled_width w tab u f.tile) f.edge
-
-  pub found_number : {g : ℕ} → g ≡ first_in table u + border_number (rows_at bytes (start_in table u)) (cols_at bytes (start_in table u)) (r * cols_at bytes (start_in table u) + c) → g ≡ sought
-  found_number e =
-      e ∙ ap₂ (λ (x y : ℕ). first_in table u + border_number x y (r * y + c)) (tabled_height w tab u f.tile) (tabled_width w tab u f.tile)
-      ∙ ap (λ (x : ℕ). x + border_number (height_of J (heights bytes J) u) (width_of J (widths bytes) u) (r * width_of J (widths bytes) u + c)) (tab.firsts u f.tile)
-      ∙ sym f.is

@@ -1,23 +1,21 @@
 // A move by one along a line in pieces: along the rows of the tile rows, and along the columns of the tile columns.
-ghost use Rattle.std.specs.Prelude.{◌≡◌, ◌+◌, ◌<◌, ◌≤◌};
+ghost use Rattle.std.specs.Prelude.{◌≡◌, ◌<◌, ◌≤◌};
 ghost use Rattle.mosaic_step.specs.Line.{piece_after, number_after};
+ghost use Rattle.sheet.specs.Grid.{LeadsTo};
 
 // The piece moved to from piece i, which is `long` numbers long, where x is one more than the number moved to, counted from the start of
-// piece i; or the number of pieces where there is none.
-pub fn piece_after(pieces: usize, i: usize, long: usize, x: usize) -> usize
+// piece i; where there is such a piece.
+pub fn piece_after(pieces: usize, i: usize, long: usize, x: usize) -> Option<usize>
     requires { i < pieces }
-    ensures { result ≡ piece_after pieces i long x }
+    ensures { LeadsTo pieces (piece_after pieces i long x) result }
 {
     if x == 0 {
-        if i == 0 {
-            return pieces;
-        }
-        return i - 1;
+        return i.checked_sub(1);
     }
-    if long < x {
-        return i + 1;
+    if x <= long {
+        return Some(i);
     }
-    i
+    if i + 1 < pieces { Some(i + 1) } else { None }
 }
 
 // The number in piece j, which is `there` numbers long: the last of a piece before, the first of a piece after.

@@ -4,11 +4,6 @@ ghost use Rattle.sheet.specs.Shape.{Within, within};
 
 use crate::step::{Spot, after};
 
-// The most rows, and the most columns, of a sheet and of a tile.
-pub const SHEET_MOST: usize = 4096;
-
-pub const TILE_MOST: usize = 256;
-
 // 1 to `MOST` rows and 1 to `MOST` columns.
 #[derive(Clone, Copy)]
 pub struct Shape<const MOST: usize> {
@@ -17,9 +12,9 @@ pub struct Shape<const MOST: usize> {
     pub ghost bounds: { Within MOST rows cols },
 }
 
-pub type Sheet = Shape<SHEET_MOST>;
+pub type Sheet = Shape<4096>;
 
-pub type Tile = Shape<TILE_MOST>;
+pub type Tile = Shape<256>;
 
 // 1 to `most`.
 pub fn is_within(n: usize, most: usize) -> bool
@@ -30,6 +25,10 @@ pub fn is_within(n: usize, most: usize) -> bool
 
 impl<const MOST: usize> Shape<MOST> {
     ghost use Rattle.sheet.specs.Leaves.{Makes};
+
+    pub const MOST_ROWS: usize = MOST;
+
+    pub const MOST_COLS: usize = MOST;
 
     // The shape, where it lies within the bounds.
     pub fn new(rows: usize, cols: usize) -> Option<Self>

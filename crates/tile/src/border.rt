@@ -75,3 +75,12 @@ pub fn border_spot(tile: Tile, b: usize) -> Spot
         col: cols - 1,
     }
 }
+
+// The place of border cell b.
+pub fn border_place(tile: Tile, b: usize) -> usize
+    requires { b < border_cells tile.rows tile.cols }
+    ensures value { result ≡ border_place tile.rows tile.cols b }
+    ensures inside { result < tile.rows * tile.cols }
+{
+    tile.sheet().place(border_spot(tile, b))
+}

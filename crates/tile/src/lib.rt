@@ -2,3 +2,4 @@
 #![tactic(auto)]
 
 pub mod border;
+pub mod shape;

@@ -1,39 +1,22 @@
--- Laws of bytes that have been put one after the other.
+-- Laws of fields that have been written, and of pieces one behind the other.
 -- Assumes nothing.
-use mathlib.Core.List.{List, [], ◌∷◌, ◌++◌, append_assoc, append-nil}
-use mathlib.Core.Path.{◌≡◌, refl, sym, ap, ◌∙◌}
-use Prim.Native.Nat.{ℕ, ◌+◌, ◌<◌}
-use native.Mathlib.Numerals.{add-one}
-use native.Mathlib.Omega.{arith}
-use lib.ListN.{length, take, set, length-append, length-set}
-use lib.Seq.{take-suc-set, take_all}
-use Rattle.tile_bytes.specs.Bytes.{two, field}
-use Rattle.tile_bytes.specs.Puts.{Puts}
-
--- nothing
-pub puts_none : (l : List ℕ) (at : ℕ) → Puts [] l at l at
-puts_none l at = record { next_is = omega arith; so_far = sym (append-nil (take at l)); long = refl }
-
--- a byte
-pub puts_byte : (l : List ℕ) (at b : ℕ) → at < length l → Puts (b ∷ []) l at (set l at b) (at + 1)
-puts_byte l at b h = record { next_is = omega arith; so_far = rw add-one (take-suc-set l at b h); long = length-set l at b }
-
--- one thing, and another behind it
-pub puts_then : {a b x y z : List ℕ} {at mid next : ℕ} → Puts a x at y mid → Puts b y mid z next → Puts (a ++ b) x at z next
-puts_then {a} {b} {x} {at = at} p q = record {
-  next_is = omega (arith, length-append a b, p.next_is, q.next_is);
-  so_far = q.so_far ∙ ap (λ (l : List ℕ). l ++ b) p.so_far ∙ append_assoc (take at x) a b;
-  long = q.long ∙ p.long;
-}
-
-pub puts_is : {a b x y : List ℕ} {at next : ℕ} → a ≡ b → Puts a x at y next → Puts b x at y next
-puts_is e p = rw e at p
+use mathlib.Core.List.{List, ◌∷◌, ◌++◌}
+use mathlib.Core.Path.{◌≡◌, sym, ap}
+use Prim.Native.Nat.{ℕ, ◌+◌, ◌≤◌}
+use lib.ListN.{length}
+use Rattle.tile_bytes.specs.Bytes.{two, field, each}
+use Rattle.tile_bytes.proofs.Each.{each_none, each_next}
+use Rattle.writer.specs.Parts.{Writes}
+use Rattle.writer.specs.declared.Writer.{Writer}
+use Rattle.writer.proofs.Wrote.{writes_none, writes_then, writes_is}
 
 -- a field: its tag and length, and its contents
-pub puts_field : {tag n : ℕ} {contents x y z : List ℕ} {at mid next : ℕ} → n ≡ length contents → Puts (tag ∷ two n) x at y mid → Puts contents y mid z next
-    → Puts (field tag contents) x at z next
-puts_field {tag} {n} {contents} e p q = puts_is (ap (λ (k : ℕ). (tag ∷ two k) ++ contents) e) (puts_then p q)
+pub puts_field : {tag n : ℕ} {contents : List ℕ} {x y z : Writer} → n ≡ length contents → Writes (tag ∷ two n) x y → Writes contents y z → Writes (field tag contents) x z
+puts_field {tag} {n} {contents} e p q = writes_is (ap (λ (k : ℕ). (tag ∷ two k) ++ contents) e) (writes_then p q)
 
--- what fills the whole buffer from its start is what the buffer then holds
-pub puts_all : {a x y : List ℕ} {next : ℕ} → Puts a x 0 y next → length x ≡ length a → y ≡ a
-puts_all {a} {x} {y} {next} p e = sym (take_all next y (omega (arith, p.next_is, p.long))) ∙ p.so_far
+-- pieces one behind the other: none, and one more
+pub puts_start : (f : ℕ → List ℕ) (w : Writer) → w.at ≤ length w.out.now → Writes (each 0 f) w w
+puts_start f w h = writes_is (sym (each_none f)) (writes_none w h)
+
+pub puts_more : {x y z : Writer} (f : ℕ → List ℕ) (n : ℕ) → Writes (each n f) x y → Writes (f n) y z → Writes (each (n + 1) f) x z
+puts_more f n p q = writes_is (sym (each_next f n)) (writes_then p q)

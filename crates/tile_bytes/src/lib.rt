@@ -1,118 +1,74 @@
-// The bytes of a border record: numbers and fields, written byte by byte. Each function answers the next place.
+// The bytes of a border record: numbers and fields, written one behind the other.
 #![tactic(auto)]
 
-ghost use Rattle.std.specs.Prelude.{[], ◌∷◌, ◌≡◌, ◌+◌, ◌*◌, ◌<◌, ◌≤◌, length};
-ghost use Rattle.sheet.specs.Shape.{TileShape};
+pub mod position;
+
+ghost use Rattle.std.specs.Prelude.{◌∷◌, ◌≡◌, ◌+◌, ◌*◌, ◌<◌, length};
 ghost use Rattle.tile.specs.Border.{border_cells};
-ghost use Rattle.tile_bytes.specs.Bytes.{two, four, field, each, sides, border_count};
-ghost use Rattle.tile_bytes.specs.Puts.{Puts};
+ghost use Rattle.tile_bytes.specs.Bytes.{two, field, each, sides, border_count};
+ghost use Rattle.writer.specs.Parts.{Room, Writes};
 
-use tile::border::{border_cells, border_spot};
-
-// Puts a byte.
-pub fn put(bytes: &mut [u8], at: usize, b: u8) -> usize
-    requires { at < length bytes.old }
-    ensures { Puts (b ∷ []) bytes.old at bytes.new result }
-{
-    bytes[at] = b;
-    at + 1
-}
+use crate::position::Position;
+use sheet::shape::Tile;
+use tile::border::{border_cells, border_place};
+use writer::Writer;
 
 // Puts a number in two bytes, the higher first.
-pub fn put_two(bytes: &mut [u8], at: usize, n: usize) -> usize
-    requires { at + 2 ≤ length bytes.old }
-    ensures { Puts (two n) bytes.old at bytes.new result }
+pub fn put_two(to: &mut Writer<'_>, n: u16)
+    requires { Room 2 to.old }
+    ensures { Writes (two n) to.old to.new }
 {
-    let next = put(bytes, at, (n / 256 % 256) as u8);
-    put(bytes, next, (n % 256) as u8)
-}
-
-// Puts a number in four bytes, the highest first.
-pub fn put_four(bytes: &mut [u8], at: usize, n: u32) -> usize
-    requires { at + 4 ≤ length bytes.old }
-    ensures { Puts (four n) bytes.old at bytes.new result }
-{
-    let second = put(bytes, at, (n / 16777216 % 256) as u8);
-    let third = put(bytes, second, (n / 65536 % 256) as u8);
-    let fourth = put(bytes, third, (n / 256 % 256) as u8);
-    put(bytes, fourth, (n % 256) as u8)
+    to.word(&n.to_be_bytes());
 }
 
 // Puts a field's tag and its length.
-pub fn put_head(bytes: &mut [u8], at: usize, tag: u8, contents: usize) -> usize
-    requires { at + 3 ≤ length bytes.old }
-    ensures { Puts (tag ∷ two contents) bytes.old at bytes.new result }
+pub fn put_head(to: &mut Writer<'_>, tag: u8, contents: u16)
+    requires { Room 3 to.old }
+    ensures { Writes (tag ∷ two contents) to.old to.new }
 {
-    let next = put(bytes, at, tag);
-    put_two(bytes, next, contents)
-}
-
-// Puts four numbers in two bytes each.
-fn put_sides(bytes: &mut [u8], at: usize, a: usize, b: usize, c: usize, d: usize) -> usize
-    requires { at + 8 ≤ length bytes.old }
-    ensures { Puts (sides a b c d) bytes.old at bytes.new result }
-{
-    let second = put_two(bytes, at, a);
-    let third = put_two(bytes, second, b);
-    let fourth = put_two(bytes, third, c);
-    put_two(bytes, fourth, d)
+    to.byte(tag);
+    put_two(to, contents);
 }
 
 // Writes field 1: the tile's sides and its position.
-pub fn write_sides(
-    bytes: &mut [u8],
-    at: usize,
-    rows: usize,
-    cols: usize,
-    tile_row: usize,
-    tile_col: usize,
-) -> usize
-    requires { at + 11 ≤ length bytes.old }
-    ensures { Puts (field 1 (sides rows cols tile_row tile_col)) bytes.old at bytes.new result }
+pub fn write_sides(to: &mut Writer<'_>, tile: Tile, position: Position)
+    requires { Room 11 to.old }
+    ensures { Writes (field 1 (sides tile.rows tile.cols position.row position.col)) to.old to.new }
 {
-    let next = put_head(bytes, at, 1, 8);
-    put_sides(bytes, next, rows, cols, tile_row, tile_col)
+    put_head(to, 1, 8);
+    put_two(to, tile.rows as u16);
+    put_two(to, tile.cols as u16);
+    put_two(to, position.row as u16);
+    put_two(to, position.col as u16);
 }
 
-// Puts the count of border cell b.
-fn put_count(
-    bytes: &mut [u8],
-    at: usize,
-    rows: usize,
-    cols: usize,
-    counts: &[u32],
-    b: usize,
-) -> usize
-    requires tile_shape { TileShape rows cols × (b < border_cells rows cols) }
-    requires counts_len { (length counts.now ≡ rows * cols) × (at + 4 ≤ length bytes.old) }
-    ensures { Puts (border_count rows cols counts.now b) bytes.old at bytes.new result }
+// Puts the count of border cell b, the highest byte first.
+fn put_count(to: &mut Writer<'_>, tile: Tile, counts: &[u32], b: usize)
+    requires border { b < border_cells tile.rows tile.cols }
+    requires counts_long { length counts.now ≡ tile.rows * tile.cols }
+    requires room { Room 4 to.old }
+    ensures { Writes (border_count tile.rows tile.cols counts.now b) to.old to.new }
 {
-    let s = border_spot(rows, cols, b);
-    put_four(bytes, at, counts[s.row * cols + s.col])
+    to.word(&counts[border_place(tile, b)].to_be_bytes());
 }
 
 // Puts the counts of the border cells.
-fn put_counts(bytes: &mut [u8], at: usize, rows: usize, cols: usize, counts: &[u32]) -> usize
-    requires tile_shape { TileShape rows cols × (length counts.now ≡ rows * cols) }
-    requires cols_in_bounds { at + 4 * border_cells rows cols ≤ length bytes.old }
-    ensures { Puts (each (border_cells rows cols) (λ b. border_count rows cols counts.now b)) bytes.old at bytes.new result }
+fn put_counts(to: &mut Writer<'_>, tile: Tile, counts: &[u32])
+    requires counts_long { length counts.now ≡ tile.rows * tile.cols }
+    requires room { Room (4 * border_cells tile.rows tile.cols) to.old }
+    ensures { Writes (each (border_cells tile.rows tile.cols) (λ b. border_count tile.rows tile.cols counts.now b)) to.old to.new }
 {
-    let cells = border_cells(rows, cols);
-    let mut next = at;
-    let mut b = 0;
-    while b < cells {
-        next = put_count(bytes, next, rows, cols, counts, b);
-        b += 1;
+    for b in 0..border_cells(tile) {
+        put_count(to, tile, counts, b);
     }
-    next
 }
 
 // Writes field 2: the count of each border cell.
-pub fn write_counts(bytes: &mut [u8], at: usize, rows: usize, cols: usize, counts: &[u32]) -> usize
-    requires tile_shape { TileShape rows cols × (length counts.now ≡ rows * cols) }
-    requires cols_in_bounds { at + 3 + 4 * border_cells rows cols ≤ length bytes.old }
-    ensures { Puts (field 2 (each (border_cells rows cols) (λ b. border_count rows cols counts.now b))) bytes.old at bytes.new result }
+pub fn write_counts(to: &mut Writer<'_>, tile: Tile, counts: &[u32])
+    requires counts_long { length counts.now ≡ tile.rows * tile.cols }
+    requires room { Room (3 + 4 * border_cells tile.rows tile.cols) to.old }
+    ensures { Writes (field 2 (each (border_cells tile.rows tile.cols) (λ b. border_count tile.rows tile.cols counts.now b))) to.old to.new }
 {
-    let next = put_head(bytes, at, 2, 4 * border_cells(rows, cols));
-    put_counts(bytes, next, rows, cols, counts)
+    put_head(to, 2, 4 * border_cells(tile) as u16);
+    put_counts(to, tile, counts);
 }

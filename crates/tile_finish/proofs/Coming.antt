@@ -1,13 +1,13 @@
--- What may come in at a border cell, for each way through the code that tests it.
+-- What may come in at a border cell: the test of it is what the promise asks.
 -- Assumes nothing.
-use mathlib.Core.Bool.{Bool, true, false, true≢false}
+use mathlib.Core.Bool.{true, true≢false}
 use mathlib.Core.List.{List}
 use mathlib.Core.Logic.{inl, inr}
 use mathlib.Core.Path.{◌≡◌, sym, ap, ◌∙◌}
-use Prim.Native.Nat.{ℕ, ◌<◌, ◌≤◌}
-use lib.Dec.{eqb, leb}
+use Prim.Native.Nat.{ℕ, ◌<◌}
+use lib.Dec.{leb}
 use lib.ListN.{length, get_or}
-use borrow.Author.Tests.{eqb-true, eq-eqb, leb-true, le-leb, lt-leb}
+use borrow.Author.Tests.{eqb-true, eq-eqb, leb-true, le-leb}
 use Rattle.flow.proofs.Sum.{test}
 use Rattle.sheet.specs.Compass.{is_arrow}
 use Rattle.sheet.specs.Sheet.{land_at}
@@ -15,23 +15,6 @@ use Rattle.sheet.proofs.Dest.{land_read}
 use Rattle.tile.specs.Border.{border_place}
 use Rattle.tile_finish.specs.Finish.{IncomingOk}
 use Rattle.tile_finish.specs.Method.{may_come_in}
-
--- ---- the test
-
-module _ (code n : ℕ) where
-  pub too_much : 4194304 < n → false ≡ may_come_in code n
-  unfolding may_come_in
-  too_much l = rw (lt-leb n 4194304 l)
-
-  pub on_land : {b : Bool} → n ≤ 4194304 → b ≡ is_arrow code → b ≡ true → true ≡ may_come_in code n
-  unfolding may_come_in
-  on_land l e t = rw (le-leb n 4194304 l, sym e ∙ t)
-
-  pub off_land : {b : Bool} → n ≤ 4194304 → b ≡ is_arrow code → b ≡ false → eqb n 0 ≡ may_come_in code n
-  unfolding may_come_in
-  off_land l e t = rw (le-leb n 4194304 l, sym e ∙ t)
-
--- ---- is what the promise asks
 
 module _ (rows cols : ℕ) (g incoming : List ℕ) (b : ℕ) {p : ℕ} (at : p ≡ border_place rows cols b) (inside : p < length g) where
   land_here : is_arrow (get_or g p 0) ≡ land_at g (border_place rows cols b)

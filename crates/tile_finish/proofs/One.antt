@@ -17,8 +17,9 @@ use Rattle.sheet.specs.Sheet.{dest_of, unit, count_at, SheetNoLoop}
 use Rattle.sheet.proofs.Dest.{dest_beyond, gives_unit}
 use Rattle.sheet.proofs.Unique.{loop_one}
 use Rattle.tile_finish.specs.Finish.{FinishPromise, Finished, FinishedCounts, comes_at, finish_reply, ends}
-use Rattle.tile_finish.specs.declared.FinishReply.{FinishReply}
-use Rattle.tile_finish.specs.declared.FinishReply.TheVariants.{Done, Shape, Length, Code, Loop, Incoming}
+use Rattle.tile_finish.specs.declared.FinishError.{FinishError}
+use Rattle.tile_finish.specs.declared.FinishError.TheVariants.{Shape, Length, Code, Loop, Incoming}
+use Rattle.std.specs.Prelude.{Result, Ok, Err}
 
 module _ (rows cols : ℕ) (grid incoming : List ℕ) (long : length grid ≡ rows * cols) where
   -- counts that satisfy the equation leave no room for a loop
@@ -41,23 +42,23 @@ module _ (rows cols : ℕ) (grid incoming : List ℕ) (long : length grid ≡ ro
 
 -- ---- the paper's numbers and values tell the answers apart
 
-answer_of : Reply → FinishReply
+answer_of : Reply → Result (Unit {0}) FinishError
 answer_of (reply n vs) =
-    cond (eqb n 0) Done
-    (cond (eqb n 1) Shape (cond (eqb n 2) Length (cond (eqb n 3) (Code (get_or vs 0 0)) (cond (eqb n 4) (Loop (get_or vs 0 0) (get_or vs 1 0)) (Incoming (get_or vs 0 0))))))
+    cond (eqb n 0) (Ok tt)
+    (cond (eqb n 1) (Err Shape) (cond (eqb n 2) (Err Length) (cond (eqb n 3) (Err (Code (get_or vs 0 0))) (cond (eqb n 4) (Err (Loop (get_or vs 0 0) (get_or vs 1 0))) (Err (Incoming (get_or vs 0 0)))))))
 
-answer_back : (r : FinishReply) → answer_of (finish_reply r) ≡ r
+answer_back : (r : Result (Unit {0}) FinishError) → answer_of (finish_reply r) ≡ r
 unfolding answer_of
-answer_back Done = refl
-answer_back Shape = refl
-answer_back Length = refl
-answer_back (Code place) = refl
-answer_back (Loop place len) = refl
-answer_back (Incoming border) = refl
+answer_back (Ok done) = refl
+answer_back (Err Shape) = refl
+answer_back (Err Length) = refl
+answer_back (Err (Code place)) = refl
+answer_back (Err (Loop place len)) = refl
+answer_back (Err (Incoming border)) = refl
 
 -- an answer with the counts and the work buffer that it leaves
 pub record Answer : Type 0 where
-  pub answer : FinishReply
+  pub answer : Result (Unit {0}) FinishError
   pub counts_after : List ℕ
   pub work_after : List ℕ
 

@@ -1,6 +1,6 @@
 -- The promise of finishing a tile (paper 01, "Replies and what remains" and "Tiles and their border records"): 1, 2, 3, 10, 4, done.
 -- Assumes nothing.
-use Rattle.std.specs.Prelude.{Bool, false, ◌||◌, List, [], ◌∷◌, ◌≡◌, ℕ, ◌+◌, ◌*◌, ◌≤◌, eqb, length, replicate}
+use Rattle.std.specs.Prelude.{Result, Ok, Err, Bool, false, ◌||◌, List, [], ◌∷◌, ◌≡◌, ℕ, ◌+◌, ◌*◌, ◌≤◌, eqb, length, replicate}
 use Rattle.flow.specs.Net.{on, Counts, downb}
 use Rattle.promise.specs.Links.{Unless, UnlessAll, UnlessSome, ◌then◌}
 use Rattle.promise.specs.Reply.{Reply}
@@ -8,17 +8,17 @@ use Rattle.promise.specs.Reply.Reply.{reply}
 use Rattle.sheet.specs.Shape.{TileShape}
 use Rattle.sheet.specs.Sheet.{CodeOk, LoopIn, land_at, dest_of, unit, count_at}
 use Rattle.tile.specs.Border.{border_cells, border_number, border_place, on_border}
-use Rattle.tile_finish.specs.declared.FinishReply.{FinishReply}
-use Rattle.tile_finish.specs.declared.FinishReply.TheVariants.{Done, Shape, Length, Code, Loop, Incoming}
+use Rattle.tile_finish.specs.declared.FinishError.{FinishError}
+use Rattle.tile_finish.specs.declared.FinishError.TheVariants.{Shape, Length, Code, Loop, Incoming}
 
 -- the paper's number and values for each answer
-abbrev pub finish_reply : FinishReply → Reply
-finish_reply Done = reply 0 []
-finish_reply Shape = reply 1 []
-finish_reply Length = reply 2 []
-finish_reply (Code place) = reply 3 (place ∷ [])
-finish_reply (Loop place len) = reply 4 (place ∷ len ∷ [])
-finish_reply (Incoming border) = reply 10 (border ∷ [])
+abbrev pub finish_reply : Result (Unit {0}) FinishError → Reply
+finish_reply (Ok done) = reply 0 []
+finish_reply (Err Shape) = reply 1 []
+finish_reply (Err Length) = reply 2 []
+finish_reply (Err (Code place)) = reply 3 (place ∷ [])
+finish_reply (Err (Loop place len)) = reply 4 (place ∷ len ∷ [])
+finish_reply (Err (Incoming border)) = reply 10 (border ∷ [])
 
 -- an outcome: what is said, and what the counts and the work buffer then hold
 pub record FinishOutcome : Type 0 where

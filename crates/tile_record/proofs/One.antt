@@ -13,8 +13,9 @@ use Rattle.promise.proofs.One.{unless_one, unless_one_met, unless_all_one, unles
 use Rattle.sheet.proofs.Unique.{loop_one, counts_one}
 use Rattle.tile_bytes.specs.Bytes.{record_bytes}
 use Rattle.tile_record.specs.Record.{RecordPromise, RecordOutcome, Recorded, record_reply, ends}
-use Rattle.tile_record.specs.declared.RecordReply.{RecordReply}
-use Rattle.tile_record.specs.declared.RecordReply.TheVariants.{Done, Shape, Layout, Length, Code, Loop}
+use Rattle.std.specs.Prelude.{Result, Ok, Err}
+use Rattle.tile_record.specs.declared.RecordError.{RecordError}
+use Rattle.tile_record.specs.declared.RecordError.TheVariants.{Shape, Layout, Length, Code, Loop}
 
 -- the equation has one solution, so there is one record
 pub recorded_one : (rows cols tile_row tile_col : ℕ) (grid : List ℕ) → length grid ≡ rows * cols → AtMostOne (Recorded rows cols tile_row tile_col grid)
@@ -28,23 +29,23 @@ recorded_one rows cols tile_row tile_col grid long e f a b =
 
 -- ---- the paper's numbers and values tell the answers apart
 
-answer_of : Reply → RecordReply
+answer_of : Reply → Result (Unit {0}) RecordError
 answer_of (reply n vs) =
-    cond (eqb n 0) Done
-    (cond (eqb n 1) Shape (cond (eqb n 2) Length (cond (eqb n 3) (Code (get_or vs 0 0)) (cond (eqb n 9) Layout (Loop (get_or vs 0 0) (get_or vs 1 0))))))
+    cond (eqb n 0) (Ok tt)
+    (cond (eqb n 1) (Err Shape) (cond (eqb n 2) (Err Length) (cond (eqb n 3) (Err (Code (get_or vs 0 0))) (cond (eqb n 9) (Err Layout) (Err (Loop (get_or vs 0 0) (get_or vs 1 0)))))))
 
-answer_back : (r : RecordReply) → answer_of (record_reply r) ≡ r
+answer_back : (r : Result (Unit {0}) RecordError) → answer_of (record_reply r) ≡ r
 unfolding answer_of
-answer_back Done = refl
-answer_back Shape = refl
-answer_back Layout = refl
-answer_back Length = refl
-answer_back (Code place) = refl
-answer_back (Loop place len) = refl
+answer_back (Ok done) = refl
+answer_back (Err Shape) = refl
+answer_back (Err Layout) = refl
+answer_back (Err Length) = refl
+answer_back (Err (Code place)) = refl
+answer_back (Err (Loop place len)) = refl
 
 -- an answer with what it leaves in the buffers
 pub record Answer : Type 0 where
-  pub answer : RecordReply
+  pub answer : Result (Unit {0}) RecordError
   pub bytes_after : List ℕ
   pub work1_after : List ℕ
   pub work2_after : List ℕ

@@ -1,23 +1,23 @@
 -- The promise of writing a tile's border record (paper 01, "Replies and what remains"): 1, 9, 2, 3, 4, done.
 -- Assumes nothing.
-use Rattle.std.specs.Prelude.{List, [], ◌∷◌, ◌≡◌, ℕ, ◌*◌, ◌≤◌, length, replicate}
+use Rattle.std.specs.Prelude.{Result, Ok, Err, List, [], ◌∷◌, ◌≡◌, ℕ, ◌*◌, ◌≤◌, length, replicate}
 use Rattle.promise.specs.Links.{Unless, UnlessAll, UnlessSome, ◌then◌}
 use Rattle.promise.specs.Reply.{Reply}
 use Rattle.promise.specs.Reply.Reply.{reply}
 use Rattle.sheet.specs.Shape.{TileShape}
 use Rattle.sheet.specs.Sheet.{CodeOk, SheetCounts, LoopIn}
 use Rattle.tile_bytes.specs.Bytes.{record_bytes, record_length}
-use Rattle.tile_record.specs.declared.RecordReply.{RecordReply}
-use Rattle.tile_record.specs.declared.RecordReply.TheVariants.{Done, Shape, Layout, Length, Code, Loop}
+use Rattle.tile_record.specs.declared.RecordError.{RecordError}
+use Rattle.tile_record.specs.declared.RecordError.TheVariants.{Shape, Layout, Length, Code, Loop}
 
 -- the paper's number and values for each answer; 9 is returned with 0, the first byte of the one record
-abbrev pub record_reply : RecordReply → Reply
-record_reply Done = reply 0 []
-record_reply Shape = reply 1 []
-record_reply Layout = reply 9 (0 ∷ [])
-record_reply Length = reply 2 []
-record_reply (Code place) = reply 3 (place ∷ [])
-record_reply (Loop place len) = reply 4 (place ∷ len ∷ [])
+abbrev pub record_reply : Result (Unit {0}) RecordError → Reply
+record_reply (Ok done) = reply 0 []
+record_reply (Err Shape) = reply 1 []
+record_reply (Err Layout) = reply 9 (0 ∷ [])
+record_reply (Err Length) = reply 2 []
+record_reply (Err (Code place)) = reply 3 (place ∷ [])
+record_reply (Err (Loop place len)) = reply 4 (place ∷ len ∷ [])
 
 -- an outcome: what is said, and what the record's bytes and the two work buffers then hold
 pub record RecordOutcome : Type 0 where

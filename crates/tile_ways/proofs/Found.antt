@@ -1,25 +1,26 @@
 -- The way that is found for a cell, for each way through the code.
 -- Assumes nothing.
 use mathlib.Core.Bool.{true, false}
-use mathlib.Core.List.{List, [], ◌∷◌}
-use mathlib.Core.Path.{◌≡◌, refl, sym, ap, ◌∙◌}
-use Prim.Native.Nat.{ℕ, ◌+◌, ◌*◌, ◌<◌, ◌≤◌}
+use mathlib.Core.List.{List}
+use mathlib.Core.Path.{◌≡◌, sym, ap, ◌∙◌}
+use Prim.Native.Nat.{ℕ, ◌+◌, ◌*◌, ◌<◌}
 use native.Mathlib.Omega.{arith}
 use lib.ListN.{length, get_or}
 use Rattle.sheet.specs.Compass.{is_arrow, step_of}
-use Rattle.sheet.specs.Leaves.{Cell}
+use Rattle.sheet.specs.Leaves.{Cell, SpotIs}
+use Rattle.sheet.specs.declared.step.Spot.{Spot}
+use Rattle.sheet.specs.Shape.{TileShape}
 use Rattle.sheet.specs.Sheet.{code_at, land_at, step_from}
 use Rattle.sheet.proofs.Dest.{code_read, land_read}
+use Rattle.sheet.proofs.Places.{place_lt}
 use Rattle.sheet.proofs.Spots.{cell_below}
-use Rattle.tile.specs.Border.{edge_at, border_number}
-use Rattle.tile.specs.Way.{Way, last_cell, crosses, way_at}
+use Rattle.tile.specs.Border.{on_border, edge_at, border_number}
+use Rattle.tile.specs.Way.{last_cell, crosses, way_at, no_way, ends_inside}
+use Rattle.tile.proofs.Borders.{number_below}
+use Rattle.tile.proofs.Cells.{cells_most}
 use Rattle.tile.proofs.Edge.{border_at}
 use Rattle.tile.proofs.Ways.{crosses_border, steps_out, steps_in, way_absent}
-use Rattle.tile_ways.specs.declared.BorderWay.{BorderWay}
-use Rattle.tile_bytes.specs.Bytes.{two, way_bytes}
-use Rattle.tile_bytes.specs.Puts.{Puts}
-use Rattle.tile_ways.specs.Ways.{SameWay, end_way}
-use Rattle.tile_bytes.proofs.Puts.{puts_is, puts_then}
+use Rattle.tile_ways.specs.Ways.{end_way}
 
 module _ (rows cols : ℕ) (g : List ℕ) where
   -- a land cell's way is told by the last cell of its path
@@ -32,37 +33,36 @@ module _ (rows cols : ℕ) (g : List ℕ) where
     there : r * cols + c < length g
     there = omega (arith, cell_below cell)
 
-    pub arrow_there : land_at g (r * cols + c) ≡ true → is_arrow (get_or g (r * cols + c) 0) ≡ true
-    arrow_there a = land_read g (r * cols + c) there ∙ a
+    pub land_there : land_at g (r * cols + c) ≡ is_arrow (get_or g (r * cols + c) 0)
+    land_there = sym (land_read g (r * cols + c) there)
 
-    pub found_absent : is_arrow (get_or g (r * cols + c) 0) ≡ false → SameWay (way_at rows cols g (r * cols + c)) (record { number = 65535; code = 255 })
-    found_absent e = rw (way_absent rows cols g (r * cols + c) (sym (land_read g (r * cols + c) there) ∙ e)) (refl, refl)
+    pub found_absent : is_arrow (get_or g (r * cols + c) 0) ≡ false → no_way ≡ way_at rows cols g (r * cols + c)
+    found_absent e = sym (way_absent rows cols g (r * cols + c) (land_there ∙ e))
 
-    module _ (land : land_at g (r * cols + c) ≡ true) {q : ℕ} (s : q ≡ step_from rows cols (step_of (get_or g (r * cols + c) 0)) (r * cols + c)) where
-      stepped : q ≡ step_from rows cols (step_of (code_at g (r * cols + c))) (r * cols + c)
-      stepped = s ∙ ap (λ (x : ℕ). step_from rows cols (step_of x) (r * cols + c)) (code_read g (r * cols + c) there)
+    module _ (land : land_at g (r * cols + c) ≡ true) where
+      stepped : step_from rows cols (step_of (code_at g (r * cols + c))) (r * cols + c) ≡ step_from rows cols (step_of (get_or g (r * cols + c) 0)) (r * cols + c)
+      stepped = ap (λ (x : ℕ). step_from rows cols (step_of x) (r * cols + c)) (sym (code_read g (r * cols + c) there))
 
       -- its arrow stays inside, so that it points at an absent cell
-      pub found_inside : q < rows * cols → SameWay (end_way rows cols g (r * cols + c)) (record { number = 65535; code = 0 })
+      pub found_inside : (s : Spot) → SpotIs rows cols s (step_from rows cols (step_of (get_or g (r * cols + c) 0)) (r * cols + c)) → ends_inside ≡ end_way rows cols g (r * cols + c)
       unfolding end_way
-      found_inside l = rw (steps_in rows cols g (r * cols + c) (omega (arith, stepped))) (refl, refl)
+      found_inside s to = rw (steps_in rows cols g (r * cols + c) (omega (arith, stepped, to.place_is, place_lt rows cols s.row s.col to.row_in to.col_in)))
 
       -- it crosses the edge
-      crossed : rows * cols ≤ q → crosses rows cols g (r * cols + c) ≡ true
-      crossed l = steps_out rows cols g (r * cols + c) land (omega (arith, stepped))
+      module _ (out : step_from rows cols (step_of (get_or g (r * cols + c) 0)) (r * cols + c) ≡ rows * cols) where
+        crossed : crosses rows cols g (r * cols + c) ≡ true
+        crossed = steps_out rows cols g (r * cols + c) land (omega (arith, stepped))
 
-      pub found_edge : rows * cols ≤ q → edge_at rows cols r c ≡ true
-      found_edge l = sym (border_at rows cols r c cell.col_in) ∙ crosses_border rows cols g (r * cols + c) (crossed l) (cell_below cell)
+        on_edge : on_border rows cols (r * cols + c) ≡ true
+        on_edge = crosses_border rows cols g (r * cols + c) crossed (cell_below cell)
 
-      pub found_over : {n : ℕ} → rows * cols ≤ q → n ≡ border_number rows cols (r * cols + c) → SameWay (end_way rows cols g (r * cols + c)) (record { number = n; code = get_or g (r * cols + c) 0 })
-      unfolding end_way
-      found_over l e = rw (crossed l) (e, code_read g (r * cols + c) there)
+        pub found_edge : edge_at rows cols r c ≡ true
+        found_edge = sym (border_at rows cols r c cell.col_in) ∙ on_edge
 
--- the same way, told otherwise
-pub finds_is : {v w : Way} {b : BorderWay} → v ≡ w → SameWay v b → SameWay w b
-finds_is {b = b} e f = (f.0 ∙ ap (λ (u : Way). u.number) e, f.1 ∙ ap (λ (u : Way). u.code) e)
+        pub found_over : (n : ℕ) → n ≡ border_number rows cols (r * cols + c) → record { number = n; code = get_or g (r * cols + c) 0 } ≡ end_way rows cols g (r * cols + c)
+        unfolding end_way
+        found_over n e = rw (crossed, e, code_read g (r * cols + c) there)
 
--- a way that is found, put into the record
-pub puts_way : {v : Way} {b : BorderWay} {x y z : List ℕ} {at mid next : ℕ} → SameWay v b → Puts (two b.number) x at y mid → Puts (b.code ∷ []) y mid z next
-    → Puts (way_bytes v) x at z next
-puts_way f p q = puts_is (rw (f.0, f.1)) (puts_then p q)
+        -- and its number fits two bytes
+        pub number_fits : TileShape rows cols → border_number rows cols (r * cols + c) < 65536
+        number_fits shape = omega (arith, cells_most rows cols shape, number_below rows cols (r * cols + c) (cell_below cell) on_edge)

@@ -4,7 +4,8 @@ use mathlib.Core.Bool.{true}
 use mathlib.Core.List.{List}
 use mathlib.Core.Logic.{inl, inr}
 use mathlib.Core.Path.{◌≡◌, sym, ap, ◌∙◌}
-use Prim.Native.Nat.{ℕ, zero, suc, ◌+◌, ◌-◌, ◌*◌, ◌/◌, ◌%◌, ◌<◌, ◌≤◌}
+use Prim.Native.Nat.{ℕ, zero, suc, ◌+◌, ◌-◌, ◌*◌, ◌<◌, ◌≤◌}
+use native.Mathlib.Nat.{mul-le-mul}
 use native.Mathlib.Omega.{arith}
 use lib.Dec.{eqb}
 use lib.ListN.{length, set, length-set, replicate, length-replicate, get_or-replicate}
@@ -18,18 +19,24 @@ use Rattle.flow.proofs.LookStep.{zeros}
 use Rattle.flow.proofs.Sum.{same, on_eq, on_ne, sum_change, sum_ones}
 use Rattle.flow.proofs.Through.{through}
 use Rattle.flow.proofs.Walk.{steps_suc}
-use Rattle.sheet.specs.Leaves.{Cell, SpotOf}
+use Rattle.sheet.specs.Leaves.{SpotIs}
 use Rattle.sheet.specs.Sheet.{land_at, dest_of, count_at}
+use Rattle.sheet.specs.Grid.{OnGrid, cells_in, place_in, dest_in}
+use Rattle.sheet.specs.declared.grid.Grid.{Grid}
 use Rattle.sheet.specs.declared.step.Spot.{Spot}
 use Rattle.sheet.proofs.Dest.{to_land, dest_beyond}
-use Rattle.sheet.proofs.Spots.{cell_below, spot_cell, spot_off, place_of_cell}
+use Rattle.sheet.proofs.Spots.{cell_below, spot_cell}
 use Rattle.tile.specs.Way.{last_cell}
 use Rattle.tile.proofs.Ways.{last_in_lem}
-use Rattle.tile_ways.specs.Ways.{FreeTile, Known}
+use Rattle.tile_ways.specs.Ways.{FreeTile, Known, last_in}
 
 -- how far p is from the end, at most: fewer cells can lie below a cell that more water passes
 unfoldable pub to_go : (rows cols : ℕ) → List ℕ → ℕ → ℕ
 to_go rows cols g p = rows * cols - through (rows * cols) (dest_of rows cols g) (λ q. 1) p
+
+-- the same in a tile with its codes
+abbrev pub to_go_in : Grid → ℕ → ℕ
+to_go_in g p = to_go g.sheet.rows g.sheet.cols g.codes.now p
 
 module _ (rows cols : ℕ) (g : List ℕ) (t : FreeTile rows cols g) where
   out : (p : ℕ) → rows * cols ≤ p → rows * cols ≤ dest_of rows cols g p
@@ -67,26 +74,31 @@ module _ (rows cols : ℕ) (g : List ℕ) (t : FreeTile rows cols g) where
       go (zero, s, h, o) = ap (land_at g) (sym s) ∙ a
       go {e} (suc i, s, h, o) = to_land rows cols g (steps (dest_of rows cols g) i p) (sym (steps_suc (dest_of rows cols g) i p) ∙ s) h
 
-  -- ---- a step from row r and column c to the spot s
+-- ---- the last cell of a path from a cell of it
 
-  module _ (r c : ℕ) (cell : Cell rows cols r c) (s : Spot) (at : SpotOf rows cols s (dest_of rows cols g (r * cols + c))) where
-    -- to a cell
-    module _ (l : s.row < rows) where
-      pub next_cell : Cell rows cols s.row s.col
-      next_cell = spot_cell at cell.rows_fit cell.cols_fit l
+module _ (g : Grid) (t : FreeTile g.sheet.rows g.sheet.cols g.codes.now) (at : Spot) (cell : OnGrid g at) where
+  -- is a cell
+  pub last_below : last_in g (place_in g at) < cells_in g
+  last_below = last_in_lem g.sheet.rows g.sheet.cols g.codes.now t.grid_long t.free (place_in g at) (cell_below cell)
 
-      inside : dest_of rows cols g (r * cols + c) < rows * cols
-      inside = omega (arith, at.place_is, cell_below next_cell)
+  -- and its number fits
+  pub last_fits : last_in g (place_in g at) < 16777216
+  last_fits = omega (arith, last_below, mul-le-mul cell.rows_fit cell.cols_fit)
 
-      pub next_last : last_cell rows cols g (s.row * cols + s.col) ≡ last_cell rows cols g (r * cols + c)
-      next_last = ap (last_cell rows cols g) at.place_is ∙ last_on (r * cols + c) (cell_below cell) inside
+-- ---- a step from one cell of it to the next
 
-      pub next_less : to_go rows cols g (s.row * cols + s.col) < to_go rows cols g (r * cols + c)
-      next_less = omega (arith, ap (to_go rows cols g) at.place_is, goes_less (r * cols + c) (cell_below cell) inside)
+module _ (g : Grid) (t : FreeTile g.sheet.rows g.sheet.cols g.codes.now) (at s : Spot) (cell : OnGrid g at) (to : SpotIs g.sheet.rows g.sheet.cols s (dest_in g (place_in g at))) where
+  pub next_cell : OnGrid g s
+  next_cell = spot_cell to cell.rows_fit cell.cols_fit
 
-    -- or to none
-    pub ends_last : rows ≤ s.row → last_cell rows cols g (r * cols + c) ≡ r * cols + c
-    ends_last l = last_here (r * cols + c) (omega (arith, spot_off at l))
+  inside : dest_in g (place_in g at) < cells_in g
+  inside = omega (arith, to.place_is, cell_below next_cell)
+
+  pub next_last : last_in g (place_in g s) ≡ last_in g (place_in g at)
+  next_last = ap (last_in g) to.place_is ∙ last_on g.sheet.rows g.sheet.cols g.codes.now t (place_in g at) (cell_below cell) inside
+
+  pub next_less : to_go_in g (place_in g s) < to_go_in g (place_in g at)
+  next_less = omega (arith, ap (to_go_in g) to.place_is, goes_less g.sheet.rows g.sheet.cols g.codes.now t (place_in g at) (cell_below cell) inside)
 
 -- ---- the last cells that are known
 
@@ -124,16 +136,3 @@ module _ (rows cols : ℕ) (g k : List ℕ) (known : Known rows cols g k) (p v :
         on_eq (count_at k p) 0 1 z,
         on_ne (count_at (set k p v) p) 0 1 (λ x. omega (arith, stored)),
       )
-
--- ---- cells of a tile
-
--- another cell of the tile
-pub cell_on : {rows cols r c i j : ℕ} → Cell rows cols r c → i < rows → j < cols → Cell rows cols i j
-cell_on s a b = record { rows_fit = s.rows_fit; cols_fit = s.cols_fit; row_in = a; col_in = b }
-
--- the last cell's row and column
-pub last_cell_lem : (rows cols : ℕ) (g : List ℕ) → FreeTile rows cols g → {r c e : ℕ} → Cell rows cols r c → e ≡ last_cell rows cols g (r * cols + c)
-    → Cell rows cols (e / cols) (e % cols) × (e / cols * cols + e % cols ≡ last_cell rows cols g (r * cols + c))
-last_cell_lem rows cols g t {r} {c} {e} cell d =
-    let at = place_of_cell (record { rows_fit = cell.rows_fit; cols_fit = cell.cols_fit; below = let l : e < rows * cols = omega (arith, last_in_lem rows cols g t.grid_long t.free (r * cols + c) (cell_below cell)) in l }) in
-    (at.0, at.1 ∙ d)

@@ -1,46 +1,35 @@
 -- `listed_net::count_net` meets its contract: the end of the scan says what is left, and whether anything is.
 -- Assumes nothing.
-use mathlib.Core.Path.{ap, ◌∙◌}
-use Prim.Native.Nat.{ℕ}
-use lib.ListN.{replicate}
-use Rattle.listed_net.proofs.Whole.{half_start, weighed_start, whole_done, whole_on_loop, whole_loop}
+use Rattle.std.proofs.Common.{arith, rules, length}
+use Rattle.listed_net.specs.Net.{to_at}
+use Rattle.listed_net.proofs.Whole.{givers_given, half_start, weighed_start, whole_done, whole_on_loop, whole_loop}
 use Rattle.listed_net.proofs.count_net.Goals as goal
 
-pub number_givers-requires : goal.number_givers-requires
-number_givers-requires c =
-    record {
-      to_len_bound = c.requires.cells_most;
-      waiting_clear = c.clear.ensures ∙ ap (λ (n : ℕ). replicate n 0) c.requires.waiting_long;
-    }
+pub gather-requires-clause-fit : goal.gather-requires-clause-fit
+gather-requires-clause-fit c =
+    (λ q. 1, λ q x l e. search rules, λ p l. omega (arith, givers_given (length c.args.to.now) (to_at c.args.to.now) p, c.requires.cells_most))
 
 pub scan-requires : goal.scan-requires
 scan-requires c =
-    let a = c.args in
-    half_start a.to.now a.totals.now _ c.requires.cells_most c.number_givers.ensures c.requires.weights_long c.requires.weights_fit
+    let givers = c.gather.ensures (λ q. 1) (λ q x l e. search rules) in
+    half_start c.args.to.now c.args.totals.now _ c.requires.cells_most givers c.requires.weights_long c.requires.weights_fit
 
-pub loop_length-length-requires : goal.loop_length-length-requires
-loop_length-length-requires c =
-    let a = c.args in
-    record {
-      to_len_bound = c.requires.cells_most;
-      on_loop = whole_on_loop a.to.now a.totals.now _ _ _ c.scan.ensures _ (rw c.in-At.is at c.first_open.ensures);
-    }
+pub others_on_loop-length-requires : goal.others_on_loop-length-requires
+others_on_loop-length-requires c = whole_on_loop c.scan.ensures c.in-Some.ensures
 
-pub returns-in-At : goal.returns-in-At
-returns-in-At c =
-    let a = c.args in
+pub returns-in-Some : goal.returns-in-Some
+returns-in-Some c =
     record {
       totals_long = c.scan.ensures.half.totals_long;
       waiting_long = c.scan.ensures.half.waiting_long;
-      answers = whole_loop a.to.now a.totals.now _ _ _ c.scan.ensures _ (rw c.in-At.is at c.first_open.ensures) c.loop_length-length.ensures;
+      answers = whole_loop c.scan.ensures c.in-Some.ensures c.others_on_loop-length.ensures.one_more;
     }
 
-pub returns-in-Nothing : goal.returns-in-Nothing
-returns-in-Nothing c =
-    let a = c.args in
-    let numbered = c.number_givers.ensures in
+pub returns-in-None : goal.returns-in-None
+returns-in-None c =
+    let givers = c.gather.ensures (λ q. 1) (λ q x l e. search rules) in
     record {
       totals_long = c.scan.ensures.half.totals_long;
       waiting_long = c.scan.ensures.half.waiting_long;
-      answers = whole_done a.to.now a.totals.now _ _ _ c.scan.ensures (weighed_start a.to.now a.totals.now _ c.requires.cells_most numbered) (rw c.in-Nothing.is at c.first_open.ensures);
+      answers = whole_done c.scan.ensures (weighed_start c.args.to.now c.args.totals.now _ c.requires.cells_most givers) c.in-None.ensures;
     }

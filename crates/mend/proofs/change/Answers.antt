@@ -1,41 +1,37 @@
 -- `mend::change` meets its contract: the code is already there, or it would close a loop, or the cell is taken out and put in.
 -- Assumes nothing.
-use Rattle.sheet.proofs.Places.{laid_on}
+use native.Mathlib.Omega.{arith}
+use Rattle.sheet.proofs.Places.{laid_of}
 use Rattle.mend_moves.proofs.Moves.{lent_free}
 use Rattle.mend.proofs.Answers.{answers_same, answers_loop, put_ready, answers_mended}
 use Rattle.mend.proofs.change.Goals as goal
 
-pub returns-then-grid-place : goal.returns-then-grid-place
-returns-then-grid-place c =
+pub returns-then-codes-place : goal.returns-then-codes-place
+returns-then-codes-place c =
     let a = c.args in
-    answers_same a.rows a.cols a.grid.now a.counts.now a.place a.code c.requires.laid c.requires.sheet_counts c.if-grid-place.true
+    answers_same a.sheet.rows a.sheet.cols a.codes.now a.counts.now a.place a.code (laid_of a.sheet.bounds (omega arith) c.requires.codes_len c.requires.counts_len) c.requires.sheet_counts c.if-codes-place.true
 
-pub look_ahead-requires : goal.look_ahead-requires
-look_ahead-requires c =
+pub look_ahead-requires-clause-no_loop : goal.look_ahead-requires-clause-no_loop
+look_ahead-requires-clause-no_loop c =
     let a = c.args in
-    record {
-      laid = laid_on a.rows a.cols a.grid.now c.requires.laid c.requires.laid.grid_long;
-      place_bound = c.requires.place_bound;
-      sheet_no_loop = lent_free a.rows a.cols a.grid.now a.counts.now a.place c.requires.laid c.requires.place_bound c.requires.sheet_counts;
-    }
+    lent_free a.sheet.rows a.sheet.cols a.codes.now a.counts.now a.place (laid_of a.sheet.bounds (omega arith) c.requires.codes_len c.requires.counts_len) c.requires.place_bound c.requires.sheet_counts
 
-pub take_out-requires : goal.take_out-requires
-take_out-requires c = rw c.look_ahead.ensures.grid_unchanged (record { laid = c.requires.laid; place_bound = c.requires.place_bound; sheet_counts = c.requires.sheet_counts })
-
-pub put_in-requires : goal.put_in-requires
-put_in-requires c =
+pub put_in-requires-clause-sheet_counts : goal.put_in-requires-clause-sheet_counts
+put_in-requires-clause-sheet_counts c =
     let a = c.args in
-    let ready =
-    put_ready a.rows a.cols a.grid.now a.counts.now a.place a.code (rw c.in-Out.is at c.look_ahead.ensures.follows) c.look_ahead.ensures.grid_unchanged c.take_out.ensures.grid_after c.requires.place_bound c.requires.laid c.take_out.ensures.counts_of
-    in
-    record { laid = ready.0; place_bound = ready.1.0; sheet_counts = ready.1.1.0; sheet_no_loop = ready.1.1.1 }
+    (put_ready a.sheet.rows a.sheet.cols a.codes.now a.counts.now a.place a.code c.in_default.ensures.follows c.in_default.ensures.codes_unchanged c.take_out.ensures.codes_after c.requires.place_bound (laid_of a.sheet.bounds (omega arith) c.requires.codes_len c.requires.counts_len) c.take_out.ensures.counts_of).1.1.0
 
-pub returns-in-Round : goal.returns-in-Round
-returns-in-Round c =
+pub put_in-requires-clause-no_loop : goal.put_in-requires-clause-no_loop
+put_in-requires-clause-no_loop c =
     let a = c.args in
-    answers_loop a.rows a.cols a.grid.now a.counts.now a.place a.code (rw c.in-Round.is at c.look_ahead.ensures.follows) c.look_ahead.ensures.grid_unchanged
+    (put_ready a.sheet.rows a.sheet.cols a.codes.now a.counts.now a.place a.code c.in_default.ensures.follows c.in_default.ensures.codes_unchanged c.take_out.ensures.codes_after c.requires.place_bound (laid_of a.sheet.bounds (omega arith) c.requires.codes_len c.requires.counts_len) c.take_out.ensures.counts_of).1.1.1
 
-pub returns-in-Out : goal.returns-in-Out
-returns-in-Out c =
+pub returns-in-Some : goal.returns-in-Some
+returns-in-Some c =
     let a = c.args in
-    answers_mended a.rows a.cols a.grid.now a.counts.now a.place a.code (rw c.in-Out.is at c.look_ahead.ensures.follows) c.look_ahead.ensures.grid_unchanged c.take_out.ensures.grid_after c.put_in.ensures.grid_after c.put_in.ensures.counts_of
+    answers_loop a.sheet.rows a.sheet.cols a.codes.now a.counts.now a.place a.code c.in-Some.ensures.follows c.look_ahead.ensures.codes_unchanged
+
+pub returns : goal.returns
+returns c =
+    let a = c.args in
+    answers_mended a.sheet.rows a.sheet.cols a.codes.now a.counts.now a.place a.code c.in_default.ensures.follows c.in_default.ensures.codes_unchanged c.take_out.ensures.codes_after c.put_in.ensures.codes_after c.put_in.ensures.counts_of

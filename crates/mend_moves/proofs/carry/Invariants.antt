@@ -1,12 +1,11 @@
--- The loops of `mend_moves::carry`: what they keep, and what falls.
-use Prim.Native.Nat.{◌*◌}
+-- The loop of `mend_moves::carry`: what it keeps, and what falls.
 use Rattle.flow.proofs.Test.{to_go}
-use Rattle.sheet.specs.Sheet.{dest_of}
-use Rattle.mend_moves.specs.Moves.{Owing}
+use Rattle.sheet.specs.Grid.{cells_in, dest_in}
+use Rattle.mend_moves.specs.Moves.{OwingIn, Lands, landing}
 use Rattle.mend_moves.proofs.carry.Given as goal
 
-abbrev pub invariant-loop-p : goal.invariant-loop-p
-invariant-loop-p l = Owing l.rows l.cols l.grid l.counts l.p l.more l.less
+abbrev pub invariant-loop-next : goal.invariant-loop-next
+invariant-loop-next l = record { owing : OwingIn l.grid l.counts (landing (cells_in l.grid) l.next) l.more l.less; lands : Lands (cells_in l.grid) l.next }
 
-abbrev pub decreases-loop-p : goal.decreases-loop-p
-decreases-loop-p l = to_go (l.rows * l.cols) (dest_of l.rows l.cols l.grid) l.p
+abbrev pub decreases-loop-next : goal.decreases-loop-next
+decreases-loop-next l = to_go (cells_in l.grid) (dest_in l.grid) (landing (cells_in l.grid) l.next)

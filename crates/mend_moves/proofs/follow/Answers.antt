@@ -1,49 +1,54 @@
 -- `mend_moves::follow` meets its contract: the water comes back, or it leaves.
 -- Assumes nothing.
 use native.Mathlib.Omega.{arith}
-use Rattle.sheet.specs.Sheet.{dest_of}
-use Rattle.sheet.proofs.Places.{laid_area, place_of}
-use Rattle.mend_moves.proofs.Following.{way_begins, way_on, way_short, way_back, way_out}
+use Rattle.sheet.specs.Grid.{cells_in, dest_in}
+use Rattle.sheet.proofs.Grids.{grid_laid}
+use Rattle.sheet.proofs.Places.{laid_area}
+use Rattle.mend_moves.proofs.Following.{landed, way_begins, way_on, way_short, way_back, way_out}
 use Rattle.mend_moves.proofs.follow.Goals as goal
 
-pub overflow_mul-none : goal.overflow_mul-none
-overflow_mul-none c = omega (arith, laid_area c.requires.laid)
-
-pub dest-p-requires : goal.dest-p-requires
-dest-p-requires c = record { place = place_of c.requires.laid c.requires.start_bound; grid_len = c.requires.laid.grid_long }
-
-pub loop-p-init : goal.loop-p-init
-loop-p-init c = let a = c.args in way_begins (dest_of a.rows a.cols a.grid.now) a.start c.dest-p.ensures
+pub loop-next-init : goal.loop-next-init
+loop-next-init c =
+    let g = c.args.grid.now in
+    let next = landed _ _ _ c.dest-next.ensures in
+    record { way = way_begins (dest_in g) c.args.start next.0; lands = next.1 }
 
 pub overflow_add-length : goal.overflow_add-length
 overflow_add-length c =
-    let a = c.args in
-    omega (arith, laid_area c.requires.laid, way_short a.rows a.cols a.grid.now a.start c.requires.laid.grid_long c.requires.start_bound c.requires.sheet_no_loop c.loop-p.least c.loop-p.further c.loop-p.p c.loop-p.invariant c.loop-p-test.true)
+    let g = c.args.grid.now in
+    let way = rw c.in-Some.is at c.loop-next.invariant.way in
+    let lands = rw c.in-Some.is at c.loop-next.invariant.lands in
+    omega (arith, laid_area (grid_laid g g.long), way_short g.sheet.rows g.sheet.cols g.codes.now c.args.start g.long c.requires.start_bound c.requires.no_other_loop c.loop-next.first c.loop-next.further c.in-Some.p way lands)
 
 pub returns-then-p-start : goal.returns-then-p-start
 returns-then-p-start c =
-    let a = c.args in
-    way_back a.rows a.cols a.grid.now a.start c.requires.laid.grid_long c.requires.start_bound c.requires.sheet_no_loop c.loop-p.least c.loop-p.further c.loop-p.p c.loop-p.invariant c.if-p-start.true
+    let g = c.args.grid.now in
+    let way = rw c.in-Some.is at c.loop-next.invariant.way in
+    let lands = rw c.in-Some.is at c.loop-next.invariant.lands in
+    way_back g.sheet.rows g.sheet.cols g.codes.now c.args.start g.long c.requires.start_bound c.requires.no_other_loop c.loop-next.first c.loop-next.further c.in-Some.p way c.if-p-start.true
 
 pub overflow_add-further : goal.overflow_add-further
 overflow_add-further c =
-    let a = c.args in
-    omega (arith, laid_area c.requires.laid, way_short a.rows a.cols a.grid.now a.start c.requires.laid.grid_long c.requires.start_bound c.requires.sheet_no_loop c.loop-p.least c.loop-p.further c.loop-p.p c.loop-p.invariant c.loop-p-test.true)
+    let g = c.args.grid.now in
+    let way = rw c.in-Some.is at c.loop-next.invariant.way in
+    let lands = rw c.in-Some.is at c.loop-next.invariant.lands in
+    omega (arith, laid_area (grid_laid g g.long), way_short g.sheet.rows g.sheet.cols g.codes.now c.args.start g.long c.requires.start_bound c.requires.no_other_loop c.loop-next.first c.loop-next.further c.in-Some.p way lands)
 
-pub dest-p-requires-in-loop-p : goal.dest-p-requires-in-loop-p
-dest-p-requires-in-loop-p c = record { place = place_of c.requires.laid c.loop-p-test.true; grid_len = c.requires.laid.grid_long }
+pub loop-next-smaller : goal.loop-next-smaller
+loop-next-smaller c =
+    let g = c.args.grid.now in
+    let way = rw c.in-Some.is at c.loop-next.invariant.way in
+    let lands = rw c.in-Some.is at c.loop-next.invariant.lands in
+    omega (arith, way_short g.sheet.rows g.sheet.cols g.codes.now c.args.start g.long c.requires.start_bound c.requires.no_other_loop c.loop-next.first c.loop-next.further c.in-Some.p way lands)
 
-pub loop-p-smaller : goal.loop-p-smaller
-loop-p-smaller c =
-    let a = c.args in
-    omega (arith, way_short a.rows a.cols a.grid.now a.start c.requires.laid.grid_long c.requires.start_bound c.requires.sheet_no_loop c.loop-p.least c.loop-p.further c.loop-p.p c.loop-p.invariant c.loop-p-test.true)
-
-pub loop-p-preserved : goal.loop-p-preserved
-loop-p-preserved c =
-    let a = c.args in
-    way_on (dest_of a.rows a.cols a.grid.now) a.start c.loop-p.least c.loop-p.further c.loop-p.p c.loop-p.invariant c.if-p-start.false c.smaller-least.ensures c.dest-p-in-loop-p.ensures
+pub loop-next-preserved : goal.loop-next-preserved
+loop-next-preserved c =
+    let g = c.args.grid.now in
+    let way = rw c.in-Some.is at c.loop-next.invariant.way in
+    let next = landed _ _ _ c.dest-next-in-Some.ensures in
+    record { way = rw c.min-first.ensures (way_on (dest_in g) c.args.start c.loop-next.first c.loop-next.further c.in-Some.p way c.if-p-start.false next.0); lands = next.1 }
 
 pub returns : goal.returns
 returns c =
-    let a = c.args in
-    way_out a.rows a.cols a.grid.now a.start c.requires.laid.grid_long c.requires.start_bound c.requires.sheet_no_loop c.loop-p.least c.loop-p.further c.loop-p.p c.loop-p.invariant c.loop-p-test.false
+    let g = c.args.grid.now in
+    way_out g.sheet.rows g.sheet.cols g.codes.now c.args.start g.long c.requires.start_bound c.requires.no_other_loop c.loop-next.first c.loop-next.further (cells_in g) (rw c.in_default.is at c.loop-next.invariant.way) (omega arith)

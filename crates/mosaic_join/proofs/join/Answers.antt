@@ -1,51 +1,35 @@
 -- `mosaic_join::join` meets its contract: 9 for the mosaic's own numbers, what reading refuses, and the rest.
 -- Assumes nothing.
-use mathlib.Core.Path.{refl, sym, ◌∙◌}
-use native.Mathlib.Omega.{arith}
-use Rattle.promise.specs.Links.Unless.{refused, met}
+use mathlib.Core.Path.{sym, ◌∙◌}
+use Rattle.std.proofs.lemmas.Result.{err_from_is_err_and}
+use Rattle.promise.specs.Links.Unless.{met}
+use Rattle.promise.specs.Reply.{Reply}
 use Rattle.mosaic_join.specs.Joining.{ends, works}
-use Rattle.mosaic_join.proofs.Refuse.{rows_many, cols_many, tiles_none, tiles_many, tiles_small, shape_of, read_refused, read_found, read_on, read_well}
+use Rattle.mosaic_join.proofs.Refuse.{refusal_said, read_refused, read_found, read_on, read_well}
 use Rattle.mosaic_net.proofs.Told.{borders_read}
 use Rattle.mosaic_join.proofs.join.Goals as goal
 
-pub returns-then-tile_rows-gt64 : goal.returns-then-tile_rows-gt64
-returns-then-tile_rows-gt64 c = let a = c.args in refused (rows_many a.tile_rows a.tile_cols c.if-tile_rows-gt64.true) refl
-
-pub returns-then-tile_cols-gt64 : goal.returns-then-tile_cols-gt64
-returns-then-tile_cols-gt64 c = let a = c.args in refused (cols_many a.tile_rows a.tile_cols c.if-tile_cols-gt64.true) refl
-
-pub overflow_mul-tiles : goal.overflow_mul-tiles
-overflow_mul-tiles c =
+pub returns-in_err-borders : goal.returns-in_err-borders
+returns-in_err-borders c =
     let a = c.args in
-    omega (arith, tiles_small a.tile_rows a.tile_cols c.if-tile_rows-gt64.false c.if-tile_cols-gt64.false)
+    let told = λ (r : Reply). ends r a.incoming.now (works a.work1.now a.work2.now a.work3.now a.work4.now a.work5.now) in
+    let p = err_from_is_err_and c.from_residual.result c.from_residual.ensures.1 in
+    rw (p.1, p.2)
+    (met c.if-not-is_mosaic.ensures (read_refused a.tile_rows a.tile_cols a.records.now told c.in_err-borders.ensures (refusal_said c.in_err-borders.field-0.0)))
 
-pub returns-then-tiles-eq0 : goal.returns-then-tiles-eq0
-returns-then-tiles-eq0 c = let a = c.args in refused (tiles_none a.tile_rows a.tile_cols c.if-tiles-eq0.true) refl
-
-pub returns-then-tiles-gt64 : goal.returns-then-tiles-gt64
-returns-then-tiles-gt64 c = let a = c.args in refused (tiles_many a.tile_rows a.tile_cols c.if-tiles-gt64.true) refl
-
-pub read_records-requires : goal.read_records-requires
-read_records-requires c = let a = c.args in shape_of a.tile_rows a.tile_cols c.if-tiles-eq0.false c.if-tiles-gt64.false
+pub invariant_of-mosaic : goal.invariant_of-mosaic
+invariant_of-mosaic c =
+    let a = c.args in
+    record { well_formed = read_well a.tile_rows a.tile_cols a.records.now c.if-not-is_mosaic.ensures (read_found a.tile_rows a.tile_cols a.records.now c.in_ok-borders.ensures) }
 
 pub join_records-requires : goal.join_records-requires
 join_records-requires c =
     let a = c.args in
-    let f = read_found a.tile_rows a.tile_cols a.records.now (rw c.in-Good.is at c.read_records.ensures) in
-    let w = read_well a.tile_rows a.tile_cols a.records.now (shape_of a.tile_rows a.tile_cols c.if-tiles-eq0.false c.if-tiles-gt64.false) f in
-    record { well_formed = w; n_is = f.all ∙ sym (borders_read a.tile_rows a.tile_cols a.records.now w) }
+    let f = read_found a.tile_rows a.tile_cols a.records.now c.in_ok-borders.ensures in
+    f.all ∙ sym (borders_read a.tile_rows a.tile_cols a.records.now (read_well a.tile_rows a.tile_cols a.records.now c.if-not-is_mosaic.ensures f))
 
-pub returns-in-Good : goal.returns-in-Good
-returns-in-Good c =
+pub returns : goal.returns
+returns c =
     let a = c.args in
-    met (shape_of a.tile_rows a.tile_cols c.if-tiles-eq0.false c.if-tiles-gt64.false) (read_on a.tile_rows a.tile_cols a.records.now (λ r. ends r a.incoming.now (works a.work1.now a.work2.now a.work3.now a.work4.now a.work5.now)) (read_found a.tile_rows a.tile_cols a.records.now (rw c.in-Good.is at c.read_records.ensures)) c.join_records.ensures)
-
-pub returns-in-Record : goal.returns-in-Record
-returns-in-Record c =
-    let a = c.args in
-    met (shape_of a.tile_rows a.tile_cols c.if-tiles-eq0.false c.if-tiles-gt64.false) (read_refused a.tile_rows a.tile_cols a.records.now (λ r. ends r a.incoming.now (works a.work1.now a.work2.now a.work3.now a.work4.now a.work5.now)) (rw c.in-Record.is at c.read_records.ensures) (λ e. omega arith))
-
-pub returns-in-Layout : goal.returns-in-Layout
-returns-in-Layout c =
-    let a = c.args in
-    met (shape_of a.tile_rows a.tile_cols c.if-tiles-eq0.false c.if-tiles-gt64.false) (read_refused a.tile_rows a.tile_cols a.records.now (λ r. ends r a.incoming.now (works a.work1.now a.work2.now a.work3.now a.work4.now a.work5.now)) (rw c.in-Layout.is at c.read_records.ensures) (λ e. omega arith))
+    let told = λ (r : Reply). ends r a.incoming.now (works a.work1.now a.work2.now a.work3.now a.work4.now a.work5.now) in
+    met c.if-not-is_mosaic.ensures (read_on a.tile_rows a.tile_cols a.records.now told (read_found a.tile_rows a.tile_cols a.records.now c.in_ok-borders.ensures) c.join_records.ensures)

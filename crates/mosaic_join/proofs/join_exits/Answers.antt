@@ -1,34 +1,21 @@
 -- `mosaic_join::join_exits` meets its contract: the net is written, what it says is found, and the work buffers are cleared.
 -- Assumes nothing.
-use mathlib.Core.Path.{◌∙◌}
+use mathlib.Core.Path.{◌≡◌, ◌∙◌}
+use borrow.Author.Rules.{rules}
+use lib.ListN.{length, replicate}
+use Rattle.mosaic_join.specs.Joining.{works}
 use Rattle.mosaic_join.proofs.Answers.{works_cleared, when_cleared}
 use Rattle.mosaic_join.proofs.join_exits.Goals as goal
 
-pub write_net-requires : goal.write_net-requires
-write_net-requires c =
-    let l = c.requires.join_lengths in
-    record {
-      well_formed = c.requires.well_formed;
-      leads_len = l.incoming_long;
-      pours_len = l.work1_long;
-      feeds_len = l.work2_long;
-      own_len = l.work3_long;
-      table_len = l.work5_long;
-    }
-
-pub settle-r-requires : goal.settle-r-requires
-settle-r-requires c =
-    let n = c.write_net.ensures in
-    record {
-      well_formed = c.requires.well_formed;
-      net_written = n.net_written;
-      incoming_clear = n.leads_after;
-      waiting_len = c.requires.join_lengths.work4_long;
-    }
-
 pub returns : goal.returns
 returns c =
-    let a = c.args in
+    let m = c.args.mosaic.now in
     let n = c.write_net.ensures.net_written in
-    let f = c.settle-r.ensures in
-    when_cleared a.tile_rows a.tile_cols a.records.now c.requires.well_formed (c.clear_works.ensures ∙ works_cleared a.tile_rows a.tile_cols a.records.now c.requires.well_formed n.pours_are.long n.feeds_are.long f.totals_len f.waiting_stays n.table_is.long) f.join_exits
+    let f = c.settle-found.ensures in
+    let e1 : c.fill.new.self ≡ replicate (length c.write_net.new.pours) 0 = search rules in
+    let e2 : c.fill-2.new.self ≡ replicate (length c.write_net.new.feeds) 0 = search rules in
+    let e3 : c.fill-3.new.self ≡ replicate (length c.settle-found.new.totals) 0 = search rules in
+    let e4 : c.fill-4.new.self ≡ replicate (length c.settle-found.new.waiting) 0 = search rules in
+    let e5 : c.fill-5.new.self ≡ replicate (length c.write_net.new.table) 0 = search rules in
+    when_cleared m.tile_rows m.tile_cols m.records.now m.well_formed
+    ((λ i. works (e1 i) (e2 i) (e3 i) (e4 i) (e5 i)) ∙ works_cleared m.tile_rows m.tile_cols m.records.now m.well_formed n.pours_are.long n.feeds_are.long f.totals_len f.waiting_stays n.table_is.long) f.exits_joined

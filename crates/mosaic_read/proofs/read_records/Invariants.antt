@@ -1,11 +1,6 @@
--- The loops of `mosaic_read::read_records`: what they keep, and what falls.
-use Prim.Native.Nat.{◌*◌, ◌-◌, ◌≤◌}
-use Rattle.mosaic_read.specs.Method.{Reached}
-use Rattle.mosaic_read.proofs.AllRecords.{AllOk}
+-- The loops of `mosaic_read::read_records`: what they keep. That the records so far are well formed is known of each reading.
+use mathlib.Core.Path.{◌≡◌}
 use Rattle.mosaic_read.proofs.read_records.Given as goal
 
 abbrev pub invariant-loop-t : goal.invariant-loop-t
-invariant-loop-t l = (l.t ≤ l.tile_rows * l.tile_cols) × AllOk l.records l.tile_cols l.t × Reached l.records l.tile_cols l.t l.o l.above l.left
-
-abbrev pub decreases-loop-t : goal.decreases-loop-t
-decreases-loop-t l = l.tile_rows * l.tile_cols - l.t
+invariant-loop-t l = record { records_are : l.reading.records.now ≡ l.records; tile_cols_are : l.reading.tile_cols ≡ l.tile_cols; t_is : l.reading.t ≡ l.t }

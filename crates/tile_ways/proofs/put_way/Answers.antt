@@ -1,22 +1,14 @@
 -- `tile_ways::put_way` meets its contract: the way of the cell at the border cell's place.
 -- Assumes nothing.
-use mathlib.Core.Path.{ap}
-use Rattle.tile.specs.Way.{way_at}
-use Rattle.tile_ways.proofs.Found.{finds_is, puts_way}
-use Rattle.tile.proofs.Where.{tile_cell}
+use mathlib.Core.Path.{◌≡◌, ap, ◌∙◌}
+use Rattle.tile_bytes.specs.Bytes.{way_bytes}
+use Rattle.tile_ways.specs.Told.{told}
+use Rattle.tile_ways.specs.Ways.{way_in, border_way_in}
+use Rattle.writer.proofs.Wrote.{writes_is, writes_then}
 use Rattle.tile_ways.proofs.put_way.Goals as goal
 
-pub way_of-w-requires : goal.way_of-w-requires
-way_of-w-requires c =
-    record {
-      free_tile = (c.requires.free_tile.0, tile_cell c.requires.free_tile.0.shape c.border_spot-s.ensures.spot_of c.border_spot-s.ensures.row_lt_rows);
-      known = c.requires.known.0;
-    }
-
-pub returns : goal.returns
-returns c =
-    let a = c.args in
-    record {
-      puts = puts_way (finds_is (ap (way_at a.rows a.cols a.grid.now) c.border_spot-s.ensures.spot_of.place_is) c.way_of-w.ensures.same_way) c.put_two-next.ensures c.put.ensures;
-      known_after = c.way_of-w.ensures.known_after;
-    }
+pub returns-clause-puts : goal.returns-clause-puts
+returns-clause-puts c =
+    let g = c.args.walk.now.free.now.grid in
+    let way : told c.way_of.result ≡ border_way_in g c.args.b = c.way_of.ensures.way ∙ ap (way_in g) (rw (c.tile_of.ensures.rows, c.tile_of.ensures.cols) at c.border_spot-spot.ensures.place_is) in
+    writes_is (rw (c.fields-number.ensures.number, c.fields-number.ensures.code) (ap way_bytes way)) (writes_then c.put_two.ensures c.byte.ensures)

@@ -1,11 +1,7 @@
 -- `mosaic_net::pours::feed` meets its contract: the cell pours onto none, or onto one that leads on.
 -- Assumes nothing.
-use native.Mathlib.Omega.{arith}
 use Rattle.mosaic_net.proofs.Fed.{feed_none, feed_lead}
 use Rattle.mosaic_net.proofs.pours.feed.Goals as goal
-
-pub overflow_cast-h : goal.overflow_cast-h
-overflow_cast-h c = let a = c.args in omega (arith, c.shared_slice_known-1.given a.g)
 
 pub returns-then-all-h : goal.returns-then-all-h
 returns-then-all-h c = let a = c.args in feed_none a.leads.now a.pours.now a.g c.if-all-h.true

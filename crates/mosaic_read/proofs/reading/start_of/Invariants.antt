@@ -1,0 +1,7 @@
+-- The loops of `mosaic_read::reading::start_of`: what they keep.
+use mathlib.Core.Path.{◌≡◌}
+use Rattle.mosaic_read.specs.Records.{start_of}
+use Rattle.mosaic_read.proofs.reading.start_of.Given as goal
+
+abbrev pub invariant-loop-q : goal.invariant-loop-q
+invariant-loop-q l = l.start ≡ start_of l.records l.q

@@ -1,0 +1,129 @@
+// How far reading the records of a mosaic has come, and the step past a record.
+ghost use Rattle.std.specs.Prelude.{◌≡◌, ◌+◌, ◌≤◌};
+ghost use Rattle.mosaic_read.specs.Method.{Reached, WholeBefore, Says};
+ghost use Rattle.mosaic_read.specs.Records.{start_of};
+
+use crate::ReadError;
+use crate::bytes::two_at;
+use crate::record::BorderRecord;
+use sheet::shape::SHEET_MOST;
+
+// Where record t begins: past each of the records before it.
+fn start_of(records: &[u8], t: usize) -> usize
+    requires { WholeBefore records.now t }
+    ensures { result ≡ start_of records.now t }
+{
+    let mut start = 0;
+    for q in 0..t {
+        start = BorderRecord::at(records, start).end();
+    }
+    start
+}
+
+// All records before record t are read. It begins at byte `start`; above its tile row stand so many rows, and left of its tile column so many columns.
+#[derive(Clone, Copy)]
+pub struct Reading<'a> {
+    pub records: &'a [u8],
+    pub tile_cols: usize,
+    pub t: usize,
+    pub start: usize,
+    pub above: usize,
+    pub left: usize,
+    pub ghost reached: { Reached records.now tile_cols t start above left },
+}
+
+impl<'a> Reading<'a> {
+    ghost use Rattle.mosaic_read.specs.Records.{PlacedOk, RecordOk, SidesOk};
+    ghost use Rattle.mosaic_read.specs.BorderRecord.{IsAt};
+    ghost use Rattle.mosaic_read.specs.Reading.{ReadsRecord, NextRecord};
+
+    // Before the first record.
+    pub fn new(records: &'a [u8], tile_cols: usize) -> Self
+        requires { 1 ≤ tile_cols }
+        ensures records_are { result.records.now ≡ records.now }
+        ensures tile_cols_are { result.tile_cols ≡ tile_cols }
+        ensures t_is { result.t ≡ 0 }
+    {
+        Reading {
+            records,
+            tile_cols,
+            t: 0,
+            start: 0,
+            above: 0,
+            left: 0,
+        }
+    }
+
+    // Whether record t fits the mosaic.
+    fn placed_ok(&self, found: &BorderRecord) -> bool
+        requires { IsAt self.now.records.now self.now.start found.now }
+        ensures { Says (PlacedOk self.now.records.now self.now.tile_cols self.now.t) result }
+    {
+        let bytes = self.records;
+        let i = self.t / self.tile_cols;
+        let j = self.t % self.tile_cols;
+        if two_at(bytes, self.start + 7) != i {
+            return false;
+        }
+        if two_at(bytes, self.start + 9) != j {
+            return false;
+        }
+        let beginning = start_of(bytes, i * self.tile_cols);
+        if found.tile.rows != two_at(bytes, beginning + 3) {
+            return false;
+        }
+        let top = start_of(bytes, j);
+        if found.tile.cols != two_at(bytes, top + 5) {
+            return false;
+        }
+        if SHEET_MOST < self.above + found.tile.rows {
+            return false;
+        }
+        self.left + found.tile.cols <= SHEET_MOST
+    }
+
+    // Reads record t, part by part.
+    pub fn read(&self) -> Result<BorderRecord<'a>, ReadError>
+        ensures { ReadsRecord self.now result }
+    {
+        let Some(record) = BorderRecord::read(self.records, self.start) else {
+            return Err(ReadError::Record(self.start));
+        };
+        if !self.placed_ok(&record) {
+            return Err(ReadError::Layout(self.start));
+        }
+        if !record.counts_ok() {
+            return Err(ReadError::Record(self.start + 11));
+        }
+        if !record.ways_ok() {
+            return Err(ReadError::Record(self.start + 14 + 4 * record.borders));
+        }
+        Ok(record)
+    }
+
+    // Past record t.
+    pub fn past(&self, found: &BorderRecord) -> Self
+        requires is_at { IsAt self.now.records.now self.now.start found.now }
+        requires well_formed { RecordOk self.now.records.now self.now.tile_cols self.now.t }
+        ensures { NextRecord self.now result }
+    {
+        if self.t % self.tile_cols + 1 == self.tile_cols {
+            return Reading {
+                records: self.records,
+                tile_cols: self.tile_cols,
+                t: self.t + 1,
+                start: found.end(),
+                above: self.above + found.tile.rows,
+                left: 0,
+            };
+        }
+        Reading {
+            records: self.records,
+            tile_cols: self.tile_cols,
+            t: self.t + 1,
+            start: found.end(),
+            above: self.above,
+            left: self.left + found.tile.cols,
+        }
+    }
+}

@@ -1,8 +1,0 @@
--- `mosaic_step::table::tile_start` meets its contract: it reads one number.
--- Assumes nothing.
-use native.Mathlib.Omega.{arith}
-use Prim.Native.Nat.{◌*◌}
-use Rattle.mosaic_step.proofs.table.tile_start.Goals as goal
-
-pub overflow_cast-result : goal.overflow_cast-result
-overflow_cast-result c = omega (arith, c.shared_slice_known-1.given (2 * c.args.t))
