@@ -53,8 +53,9 @@ pub fn is_arrow(code: u8) -> bool
 }
 
 // Whether a code is an arrow or marks an absent cell.
+#[tactic(auto, unfolding(crate::specs::Compass::is_code, crate::specs::Compass::is_absent))]
 pub fn is_code(code: u8) -> bool
     ensures { result ≡ is_code code }
 {
-    !matches!(meaning_of(code), Meaning::Bad)
+    is_arrow(code) || code == 0 || code == 255
 }

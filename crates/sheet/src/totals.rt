@@ -12,7 +12,13 @@ use crate::compass::{is_arrow, is_code};
 fn bad_number(grid: &[u8]) -> usize
     ensures { result ≡ number (length grid.now) (bad_at grid.now) }
 {
-    grid.iter().filter(|code| !is_code(**code)).count()
+    let mut n: usize = 0;
+    for code in grid {
+        if !is_code(*code) {
+            n += 1;
+        }
+    }
+    n
 }
 
 // The first place with a bad code: sought only where there is one.
@@ -36,7 +42,13 @@ pub fn clear(buffer: &mut [u32])
 pub fn land_number(grid: &[u8]) -> usize
     ensures { result ≡ number (length grid.now) (land_at grid.now) }
 {
-    grid.iter().filter(|code| is_arrow(**code)).count()
+    let mut n: usize = 0;
+    for code in grid {
+        if is_arrow(*code) {
+            n += 1;
+        }
+    }
+    n
 }
 
 // The greatest count, and 0 where there is none.

@@ -1,16 +1,29 @@
--- `sheet::totals::bad_number` meets its contract: the codes that are bad are as many as their places.
+-- `sheet::totals::bad_number` meets its contract: the number of the places passed that the test passes.
 -- Assumes nothing.
 use mathlib.Core.Bool.{not}
-use mathlib.Core.Path.{◌≡◌, ◌∙◌}
-use Rattle.std.specs.List.{count_by}
-use Rattle.sheet.specs.Compass.{is_code}
+use mathlib.Core.Path.{◌≡◌, sym, ap, ◌∙◌}
+use native.Mathlib.Omega.{arith}
+use Prim.Native.Nat.{◌<◌}
+use lib.ListN.{length}
+use Rattle.flow.specs.Net.{sum}
 use Rattle.sheet.specs.Leaves.{bad_at}
-use Rattle.sheet.proofs.Gather.{number_items}
+use Rattle.sheet.proofs.Dest.{land_read}
+use Rattle.sheet.proofs.Gather.{one_more, none_more, number_le, bad_read}
 use borrow.Author.Rules.{rules}
 use Rattle.sheet.proofs.totals.bad_number.Goals as goal
+use Rattle.sheet.proofs.totals.bad_number.Goals.{then-not-is_code, else-not-is_code}
 
-pub returns : goal.returns
-unfolding bad_at
-returns c =
-    let e : c.count.result ≡ count_by (λ x. not (is_code x)) c.args.grid.now = search rules in
-    e ∙ number_items (λ x. not (is_code x)) 255 c.args.grid.now
+pub loop-code-init : goal.loop-code-init
+unfolding sum
+loop-code-init c = search rules
+
+pub overflow_add-n : goal.overflow_add-n
+overflow_add-n c = omega (arith, number_le c.loop-code.code-index (bad_at c.args.grid.now))
+
+pub loop-code-preserved : goal.loop-code-preserved
+loop-code-preserved c =
+    let g = c.args.grid.now in
+    let i = c.loop-code.code-index in
+    let l : i < length g = omega arith in
+    let read = bad_read g i l c.is_code.ensures in
+    elim c.if-not-is_code.branch [ then-not-is_code w ↦ omega (arith, one_more (bad_at g) i c.loop-code.invariant (read ∙ ap not w.if-not-is_code.true)) | else-not-is_code w ↦ omega (arith, none_more (bad_at g) i c.loop-code.invariant (read ∙ ap not w.if-not-is_code.false)) ]
