@@ -47,7 +47,7 @@ fn write_line(to: &mut Writer<'_>, list: &[Item<'_>])
     ensures { Writes (items list.now ++ 10 ∷ []) to.old to.new }
 {
     for Item(word, n) in list {
-        to.word(word);
+        to.bytes(word);
         write_number(to, *n);
     }
     to.byte(b'\n');

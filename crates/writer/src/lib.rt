@@ -28,13 +28,13 @@ impl<'a> Writer<'a> {
         self.at += 1;
     }
 
-    // Writes a word.
-    pub fn word(&mut self, word: &[u8])
-        requires { Room (length word.now) self.old }
-        ensures { Writes word.now self.old self.new }
+    // Writes several.
+    pub fn bytes(&mut self, bytes: &[u8])
+        requires { Room (length bytes.now) self.old }
+        ensures { Writes bytes.now self.old self.new }
     {
-        let end = self.at + word.len();
-        self.out[self.at..end].copy_from_slice(word);
+        let end = self.at + bytes.len();
+        self.out[self.at..end].copy_from_slice(bytes);
         self.at = end;
     }
 }

@@ -7,15 +7,15 @@ use Rattle.writer.proofs.Wrote.{writes_long, writes_then, writes_is}
 use Rattle.show.proofs.Items.{items_more, word_room, number_room}
 use Rattle.show.proofs.write_line.Goals as goal
 
-pub word-requires : goal.word-requires
-word-requires c = word_room _ _ _ c.loop-word-test.true c.loop-word.invariant c.requires
+pub bytes-requires : goal.bytes-requires
+bytes-requires c = word_room _ _ _ c.loop-word-test.true c.loop-word.invariant c.requires
 
 pub write_number-requires : goal.write_number-requires
-write_number-requires c = number_room _ _ _ c.loop-word-test.true c.loop-word.invariant c.requires c.word.ensures
+write_number-requires c = number_room _ _ _ c.loop-word-test.true c.loop-word.invariant c.requires c.bytes.ensures
 
 pub loop-word-preserved : goal.loop-word-preserved
 loop-word-preserved c =
-    writes_is (sym (items_more _ _ _ c.loop-word-test.true)) (writes_then c.loop-word.invariant (writes_then c.word.ensures c.write_number.ensures))
+    writes_is (sym (items_more _ _ _ c.loop-word-test.true)) (writes_then c.loop-word.invariant (writes_then c.bytes.ensures c.write_number.ensures))
 
 pub byte-requires : goal.byte-requires
 byte-requires c =
