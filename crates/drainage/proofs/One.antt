@@ -19,7 +19,7 @@ use Rattle.tile_record.proofs.One.{record_one}
 use Rattle.drainage.specs.Calls.{CountCall, CheckCall, MendCall, RecordCall, FinishCall, JoinCall}
 use Rattle.drainage.specs.Flat.{flat}
 use Rattle.drainage.specs.Lengths.{InTile}
-use Rattle.drainage.specs.declared.Flat.{Flat}
+use Rattle.drainage.specs.declared.reply.Flat.{Flat}
 
 -- a shape lies within the bounds or outside them
 shape_or_none : (most rows cols : ℕ) → Within most rows cols ⊎ (Within most rows cols → ⊥)

@@ -10,7 +10,7 @@ use Rattle.promise.specs.Reply.{Reply}
 use Rattle.tile_finish.specs.Finish.{FinishPromise, ends as finish_ends}
 use Rattle.tile_record.specs.Record.{RecordPromise, ends as record_ends}
 use Rattle.drainage.specs.Flat.{flat}
-use Rattle.drainage.specs.declared.Flat.{Flat}
+use Rattle.drainage.specs.declared.reply.Flat.{Flat}
 
 -- some reply is as `Promised` says, and `r` is its flat record
 abbrev pub Returns : (Reply → Type 0) → Flat → Type 0

@@ -3,7 +3,7 @@
 use Rattle.std.specs.Prelude.{get_or}
 use Rattle.promise.specs.Reply.{Reply}
 use Rattle.promise.specs.Reply.Reply.{reply}
-use Rattle.drainage.specs.declared.Flat.{Flat}
+use Rattle.drainage.specs.declared.reply.Flat.{Flat}
 
 abbrev pub flat : Reply → Flat
 flat (reply n vs) = record {

@@ -3,8 +3,7 @@ ghost use Rattle.std.specs.Prelude.{◌≡◌};
 ghost use Rattle.mosaic_join.specs.Joining.{works};
 ghost use Rattle.drainage.specs.Calls.{JoinCall};
 
-use crate::{Flat, replied};
-use mosaic_join::JoinReply;
+use crate::reply::Flat;
 
 // Joining has four work buffers of one number for each border cell of the mosaic.
 #[unsafe(no_mangle)]
@@ -57,17 +56,7 @@ pub extern "C" fn drainage_join(
 ) -> Flat
     ensures { JoinCall tile_rows tile_cols records.now incoming.old (works work1.old work2.old work3.old work4.old work5.old) result incoming.new (works work1.new work2.new work3.new work4.new work5.new) }
 {
-    match mosaic_join::join(
+    Flat::from(mosaic_join::join(
         tile_rows, tile_cols, records, incoming, work1, work2, work3, work4, work5,
-    ) {
-        JoinReply::Done => replied(0, 0, 0, 0),
-        JoinReply::Layout(byte) => replied(9, byte as u64, 0, 0),
-        JoinReply::Record(byte) => replied(8, byte as u64, 0, 0),
-        JoinReply::Length => replied(2, 0, 0, 0),
-        JoinReply::Loop {
-            tile,
-            border,
-            exits,
-        } => replied(4, tile as u64, border as u64, exits as u64),
-    }
+    ))
 }

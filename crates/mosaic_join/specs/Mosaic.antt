@@ -2,7 +2,7 @@
 -- Assumes nothing.
 use Rattle.std.specs.Prelude.{List, ℕ}
 use Rattle.mosaic_read.specs.Said.{record_of}
-use Rattle.mosaic_step.specs.declared.mosaic.Mosaic.{Mosaic}
+use Rattle.mosaic_step.specs.declared.records.Mosaic.{Mosaic}
 use Rattle.mosaic_join.specs.Joining.{Work, JoinOutcome, JoinLengths, JoinExits, cleared}
 
 -- the buffers have the lengths that its border cells ask for

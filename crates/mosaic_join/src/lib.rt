@@ -16,7 +16,7 @@ ghost use Rattle.mosaic_join.specs.Mosaic.{LengthsFit, ExitsJoined};
 use crate::settle::settle;
 use mosaic_net::write_net;
 use mosaic_read::{ReadError, read_records};
-use mosaic_step::mosaic::Mosaic;
+use mosaic_step::records::Mosaic;
 use sheet::shape::is_within;
 
 // The paper's refusals of joining.

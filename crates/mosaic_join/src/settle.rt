@@ -8,7 +8,7 @@ ghost use Rattle.mosaic_join.specs.Mosaic.{ExitsJoined, work_cleared, tile_in};
 use crate::JoinError;
 use listed_net::arrows::gather;
 use listed_net::{NetLoop, count_net};
-use mosaic_step::mosaic::Mosaic;
+use mosaic_step::records::Mosaic;
 use mosaic_step::tiles::Tiles;
 
 // The tile of border cell g: the last whose first border number is not above it.

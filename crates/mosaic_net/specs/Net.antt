@@ -3,7 +3,7 @@
 use Rattle.std.specs.Prelude.{List, ℕ}
 use Rattle.mosaic_net.specs.Method.{Filled, leads_by, pours_by, own_by, NetWritten}
 use Rattle.mosaic_step.specs.Mosaic.{all_in}
-use Rattle.mosaic_step.specs.declared.mosaic.Mosaic.{Mosaic}
+use Rattle.mosaic_step.specs.declared.records.Mosaic.{Mosaic}
 
 -- the first `upto` are those of f; all are
 abbrev pub FilledTo : Mosaic → (ℕ → ℕ) → List ℕ → ℕ → Type 0

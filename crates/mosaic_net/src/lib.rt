@@ -13,7 +13,7 @@ ghost use Rattle.mosaic_net.specs.Net.{NetOf};
 use crate::leads::Leads;
 use crate::pours::{Own, Pours, fill_feeds};
 use crate::write::fill;
-use mosaic_step::mosaic::Mosaic;
+use mosaic_step::records::Mosaic;
 use mosaic_step::table::fill_table;
 use mosaic_step::tiles::Tiles;
 

@@ -1,7 +1,7 @@
 // What is told of each border cell of a mosaic, and a list of it. One way of filling serves all such lists.
 ghost use Rattle.std.specs.Prelude.{◌≡◌, ◌+◌, ◌<◌, ℕ, length};
 ghost use Rattle.mosaic_step.specs.Mosaic.{all_in};
-ghost use Rattle.mosaic_step.specs.declared.mosaic.Mosaic.{Mosaic};
+ghost use Rattle.mosaic_step.specs.declared.records.Mosaic.{Mosaic};
 ghost use Rattle.mosaic_net.specs.Net.{AllFilled};
 
 use mosaic_step::tiles::{MosaicTile, Tiles};

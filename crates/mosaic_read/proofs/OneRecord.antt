@@ -49,13 +49,6 @@ module _ {bytes : List ℕ} {J t : ℕ} where
     first1 : SidesOk bytes o → (q : ℕ) → q < 1 → PartOk bytes J t q
     first1 s = below_more (PartOk bytes J t) 0 first0 (sides_there s)
 
-    pub sides_fault : (SidesOk bytes o → ⊥) → FirstFault bytes J t (Record o)
-    sides_fault n = record {
-      part = 0;
-      first = record { inside = omega arith; here = λ h. n (subst (SidesOk bytes) (sym r.start) h); before = first0 };
-      told = ap (λ (x : ℕ). reply 8 (x ∷ [])) r.start;
-    }
-
     pub placed_fault : SidesOk bytes o → (PlacedOk bytes J t → ⊥) → FirstFault bytes J t (Layout o)
     placed_fault s n = record {
       part = 1;

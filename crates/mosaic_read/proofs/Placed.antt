@@ -4,13 +4,10 @@ use mathlib.Core.List.{List}
 use mathlib.Core.Path.{◌≡◌, sym, ap, ◌∙◌}
 use Prim.Native.Nat.{ℕ, ◌+◌, ◌*◌, ◌/◌, ◌%◌, ◌≤◌, ◌<◌}
 use native.Mathlib.Omega.{arith}
-use lib.ListN.{length}
 use Rattle.flow.proofs.Sum.{sum_suc}
 use Rattle.mosaic.proofs.Pieces.{spot_is}
-use Rattle.mosaic_read.specs.Records.{start_of, rows_at, cols_at, tile_row_at, tile_col_at, rows_of, cols_of, counts_start, heights, widths, PlacedOk}
-use Rattle.mosaic_read.specs.Method.{Reached, WholeBefore}
-use Rattle.mosaic_read.proofs.Starts.{head_inside}
-use Rattle.mosaic_read.proofs.OneRecord.{record_whole, whole_before}
+use Rattle.mosaic_read.specs.Records.{start_of, rows_at, cols_at, tile_row_at, tile_col_at, rows_of, cols_of, heights, widths, PlacedOk}
+use Rattle.mosaic_read.specs.Method.{Reached}
 
 -- the first record of the tile row, and that of the tile column, stand no later
 pub row_first : (J t : ℕ) → t / J * J ≤ t
@@ -20,23 +17,6 @@ pub col_first : (J t : ℕ) → t % J ≤ t
 col_first J t = omega (arith, spot_is J t)
 
 module _ {bytes : List ℕ} {J t o above left : ℕ} (r : Reached bytes J t o above left) where
-  -- where they begin
-  pub before_row : WholeBefore bytes (t / J * J)
-  before_row q l = record_whole (r.before q (omega (arith, row_first J t)))
-
-  pub before_col : WholeBefore bytes (t % J)
-  before_col q l = record_whole (r.before q (omega (arith, col_first J t)))
-
-  module _ (inside : counts_start o ≤ length bytes) where
-    here : counts_start (start_of bytes t) ≤ length bytes
-    here = omega (arith, r.start)
-
-    pub row_inside : {first : ℕ} → first ≡ start_of bytes (t / J * J) → first + 11 ≤ length bytes
-    row_inside e = omega (arith, e, head_inside bytes t (whole_before r.before) here (t / J * J) (row_first J t))
-
-    pub col_inside : {first : ℕ} → first ≡ start_of bytes (t % J) → first + 11 ≤ length bytes
-    col_inside e = omega (arith, e, head_inside bytes t (whole_before r.before) here (t % J) (col_first J t))
-
   -- the sides, as they are read at two starts
   module _ {rows first height : ℕ} (rows_is : rows ≡ rows_at bytes o) (first_is : first ≡ start_of bytes (t / J * J)) (height_is : height ≡ rows_at bytes first) where
     rows_of_lem : rows ≡ rows_of bytes t

@@ -8,9 +8,8 @@ use native.Mathlib.Omega.{arith}
 use lib.ListN.{length}
 use Rattle.flow.specs.Net.{sum}
 use Rattle.flow.proofs.Walk.{below}
-use Rattle.sheet.specs.Shape.{TileShape}
 use Rattle.tile.specs.Border.{border_cells}
-use Rattle.mosaic_read.specs.Records.{start_of, rows_at, cols_at, rows_of, cols_of, borders_of, counts_start}
+use Rattle.mosaic_read.specs.Records.{start_of, rows_at, cols_at, borders_of, counts_start}
 use Rattle.mosaic_read.specs.Method.{WholeBefore}
 
 module _ (bytes : List ℕ) where
@@ -26,10 +25,6 @@ module _ (bytes : List ℕ) where
   pub borders_read : (t : ℕ) {o rows cols n : ℕ} → o ≡ start_of bytes t → rows ≡ rows_at bytes o → cols ≡ cols_at bytes o → n ≡ border_cells rows cols → n ≡ borders_of bytes t
   unfolding borders_of
   borders_read t start r c e = e ∙ ap₂ border_cells (r ∙ ap (rows_at bytes) start) (c ∙ ap (cols_at bytes) start)
-
-  -- and its shape
-  pub shape_read : (t : ℕ) {o rows cols : ℕ} → o ≡ start_of bytes t → rows ≡ rows_at bytes o → cols ≡ cols_at bytes o → TileShape (rows_of bytes t) (cols_of bytes t) → TileShape rows cols
-  shape_read t start r c shape = rw (r ∙ ap (rows_at bytes) start, c ∙ ap (cols_at bytes) start) shape
 
   -- after t records
   pub start_sum : (t : ℕ) → start_of bytes t ≡ 17 * t + 7 * sum t (borders_of bytes)

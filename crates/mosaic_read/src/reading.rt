@@ -6,7 +6,7 @@ ghost use Rattle.mosaic_read.specs.Records.{start_of};
 use crate::ReadError;
 use crate::bytes::two_at;
 use crate::record::BorderRecord;
-use sheet::shape::SHEET_MOST;
+use sheet::shape::Sheet;
 
 // Where record t begins: past each of the records before it.
 fn start_of(records: &[u8], t: usize) -> usize
@@ -76,10 +76,10 @@ impl<'a> Reading<'a> {
         if found.tile.cols != two_at(bytes, top + 5) {
             return false;
         }
-        if SHEET_MOST < self.above + found.tile.rows {
+        if Sheet::MOST_ROWS < self.above + found.tile.rows {
             return false;
         }
-        self.left + found.tile.cols <= SHEET_MOST
+        self.left + found.tile.cols <= Sheet::MOST_COLS
     }
 
     // Reads record t, part by part.

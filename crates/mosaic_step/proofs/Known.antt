@@ -5,7 +5,6 @@ use mathlib.Core.List.{List}
 use mathlib.Core.Path.{◌≡◌, refl}
 use Prim.Native.Nat.{ℕ, zero, suc, ◌+◌, ◌*◌, ◌≤◌, ◌<◌}
 use native.Mathlib.Omega.{arith}
-use lib.ListN.{length}
 use Rattle.flow.specs.Net.{sum}
 use Rattle.flow.proofs.Sum.{sum_suc}
 use Rattle.sheet.specs.Compass.{is_arrow, step_of}
@@ -42,10 +41,6 @@ module _ {I J : ℕ} {bytes : List ℕ} (w : WellFormed I J bytes) where
     pub borders_most : borders_of bytes t ≤ 1020
     unfolding borders_of
     borders_most = cells_most (rows_of bytes t) (cols_of bytes t) tile_shape
-
-    -- its record ends within the bytes
-    pub record_inside : start_of bytes t + 17 + 7 * borders_of bytes t ≤ length bytes
-    record_inside = (w.records t l).ways.inside
 
     -- the number of the next tile's first border cell
     pub before_next : borders_before J (heights bytes J) (widths bytes) (suc t) ≡ borders_before J (heights bytes J) (widths bytes) t + borders_of bytes t

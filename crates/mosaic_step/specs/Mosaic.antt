@@ -1,14 +1,11 @@
 -- A mosaic as its records tell it: its tiles, its border cells, and its table.
 -- Assumes nothing.
-use Rattle.std.specs.Prelude.{List, ℕ, ◌*◌}
+use Rattle.std.specs.Prelude.{List, ℕ}
 use Rattle.mosaic_read.specs.Said.{borders}
 use Rattle.mosaic_step.specs.Table.{Table}
-use Rattle.mosaic_step.specs.declared.mosaic.Mosaic.{Mosaic}
+use Rattle.mosaic_step.specs.declared.records.Mosaic.{Mosaic}
 
--- how many tiles and how many border cells it has
-abbrev pub tiles_in : Mosaic → ℕ
-tiles_in m = m.tile_rows * m.tile_cols
-
+-- how many border cells it has
 abbrev pub all_in : Mosaic → ℕ
 all_in m = borders m.tile_rows m.tile_cols m.records.now
 

@@ -2,7 +2,7 @@
 #![tactic(auto)]
 
 mod line;
-pub mod mosaic;
 mod onto;
+pub mod records;
 pub mod table;
 pub mod tiles;

@@ -2,7 +2,7 @@
 ghost use Rattle.std.specs.Prelude.{◌≡◌, length};
 ghost use Rattle.mosaic_step.specs.Mosaic.{TableOf};
 
-use crate::mosaic::Mosaic;
+use crate::records::Mosaic;
 use mosaic_read::record::BorderRecord;
 
 // Fills the table: from tile to tile the records' bytes and border cells are summed.

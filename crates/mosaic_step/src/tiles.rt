@@ -6,7 +6,7 @@ ghost use Rattle.mosaic_read.specs.BorderRecord.{IsAt};
 ghost use Rattle.mosaic_step.specs.Exit.{TileIs};
 ghost use Rattle.mosaic_step.specs.Mosaic.{TableOf};
 
-use crate::mosaic::Mosaic;
+use crate::records::Mosaic;
 use mosaic_read::record::BorderRecord;
 use sheet::step::Spot;
 

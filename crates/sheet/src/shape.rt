@@ -4,6 +4,11 @@ ghost use Rattle.sheet.specs.Shape.{Within, within};
 
 use crate::step::{Spot, after};
 
+// The most rows, and the most columns, of a sheet and of a tile.
+const SHEET_MOST: usize = 4096;
+
+const TILE_MOST: usize = 256;
+
 // 1 to `MOST` rows and 1 to `MOST` columns.
 #[derive(Clone, Copy)]
 pub struct Shape<const MOST: usize> {
@@ -12,9 +17,9 @@ pub struct Shape<const MOST: usize> {
     pub ghost bounds: { Within MOST rows cols },
 }
 
-pub type Sheet = Shape<4096>;
+pub type Sheet = Shape<SHEET_MOST>;
 
-pub type Tile = Shape<256>;
+pub type Tile = Shape<TILE_MOST>;
 
 // 1 to `most`.
 pub fn is_within(n: usize, most: usize) -> bool
@@ -25,10 +30,6 @@ pub fn is_within(n: usize, most: usize) -> bool
 
 impl<const MOST: usize> Shape<MOST> {
     ghost use Rattle.sheet.specs.Leaves.{Makes};
-
-    pub const MOST_ROWS: usize = MOST;
-
-    pub const MOST_COLS: usize = MOST;
 
     // The shape, where it lies within the bounds.
     pub fn new(rows: usize, cols: usize) -> Option<Self>
@@ -44,6 +45,10 @@ impl<const MOST: usize> Shape<MOST> {
 
 impl Tile {
     ghost use Rattle.sheet.specs.Shape.{TileShape};
+
+    pub const MOST_ROWS: usize = TILE_MOST;
+
+    pub const MOST_COLS: usize = TILE_MOST;
 
     // A tile as a sheet of its own.
     pub fn sheet(self) -> Sheet
@@ -62,6 +67,10 @@ impl Sheet {
     ghost use Rattle.sheet.specs.Compass.{is_arrow, step_of};
     ghost use Rattle.sheet.specs.Leaves.{OnSheet, SpotOf, spot_place};
     ghost use Rattle.sheet.specs.Sheet.{step_from};
+
+    pub const MOST_ROWS: usize = SHEET_MOST;
+
+    pub const MOST_COLS: usize = SHEET_MOST;
 
     // The number of its cells.
     pub fn cells(self) -> usize

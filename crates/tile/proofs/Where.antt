@@ -9,11 +9,8 @@ use lib.Dec.{eqb, ltb}
 use borrow.Author.Tests.{eq-eqb, ne_eqb, lt-ltb, le-ltb}
 use Rattle.flow.proofs.Sum.{same}
 use Rattle.flow.proofs.Walk.{below}
-use Rattle.sheet.specs.Leaves.{Cell, SpotIs}
-use Rattle.sheet.specs.Shape.{TileShape}
-use Rattle.sheet.specs.declared.step.Spot.{Spot}
+use Rattle.sheet.specs.Leaves.{SpotIs}
 use Rattle.sheet.proofs.Places.{place_lt, row_of, col_of}
-use Rattle.sheet.proofs.Spots.{spot_cell}
 use Rattle.tile.specs.Border.{edge_at, border_cells, border_number, border_place}
 use Rattle.tile.proofs.Edge.{edge_top, edge_foot, edge_left, edge_right, border_at}
 use Rattle.tile.proofs.Borders.{number_place}
@@ -106,7 +103,3 @@ module _ (rows cols b : ℕ) (lr : 0 < rows) (lc : 0 < cols) (l : b < border_cel
 
   pub col_closed : border_place rows cols b % cols ≡ col_at rows cols b
   col_closed = ap (λ (p : ℕ). p % cols) (sym at_closed.place_is) ∙ col_of cols (row_at rows cols b) (col_at rows cols b) at_closed.col_in
-
--- the spot of a border cell is a cell
-pub tile_cell : {rows cols : ℕ} {s : Spot} {q : ℕ} → TileShape rows cols → SpotIs rows cols s q → Cell rows cols s.row s.col
-tile_cell shape at = spot_cell at (omega (arith, shape.rows_most)) (omega (arith, shape.cols_most))

@@ -18,7 +18,7 @@ pub fn put_two(to: &mut Writer<'_>, n: u16)
     requires { Room 2 to.old }
     ensures { Writes (two n) to.old to.new }
 {
-    to.word(&n.to_be_bytes());
+    to.bytes(&n.to_be_bytes());
 }
 
 // Puts a field's tag and its length.
@@ -49,7 +49,7 @@ fn put_count(to: &mut Writer<'_>, tile: Tile, counts: &[u32], b: usize)
     requires room { Room 4 to.old }
     ensures { Writes (border_count tile.rows tile.cols counts.now b) to.old to.new }
 {
-    to.word(&counts[border_place(tile, b)].to_be_bytes());
+    to.bytes(&counts[border_place(tile, b)].to_be_bytes());
 }
 
 // Puts the counts of the border cells.

