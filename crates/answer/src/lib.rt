@@ -13,7 +13,7 @@ use text::{MOST, TextError, parse};
 use writer::Writer;
 
 // Counts a grid and writes how that ends.
-fn tell(shape: Shape<MOST>, grid: &[u8], counts: &mut [u32], to: &mut Writer)
+fn tell(shape: Shape<MOST>, grid: &[u8], counts: &mut [u32], to: &mut Writer<'_>)
     requires { Lent shape grid.now counts.old to.old }
     ensures { Tells shape.rows shape.cols grid.now to.old to.new }
 {
@@ -26,7 +26,7 @@ fn tell(shape: Shape<MOST>, grid: &[u8], counts: &mut [u32], to: &mut Writer)
 }
 
 // Reads the text, counts its codes, and writes the answer.
-fn write_answer(text: &[u8], grid: &mut [u8], counts: &mut [u32], to: &mut Writer)
+fn write_answer(text: &[u8], grid: &mut [u8], counts: &mut [u32], to: &mut Writer<'_>)
     requires lengths { (4096 ≤ length grid.old) × (4096 ≤ length counts.old) }
     requires room { Room 20680 to.old }
     ensures { TellsText text.now to.old to.new }

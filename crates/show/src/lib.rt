@@ -12,7 +12,7 @@ use text::{MOST, end_of};
 use writer::Writer;
 
 // Writes a number.
-fn write_number(to: &mut Writer, n: usize)
+fn write_number(to: &mut Writer<'_>, n: usize)
     requires { Room (length (decimal n)) to.old }
     ensures { Writes (decimal n) to.old to.new }
 {
@@ -24,7 +24,7 @@ fn write_number(to: &mut Writer, n: usize)
 }
 
 // Writes a grid of numbers, a line for each row.
-fn write_grid(to: &mut Writer, shape: Shape<MOST>, numbers: &[u32])
+fn write_grid(to: &mut Writer<'_>, shape: Shape<MOST>, numbers: &[u32])
     requires grid { length numbers.now ≡ shape.rows * shape.cols }
     requires room { Room (length (lines shape.rows shape.cols numbers.now)) to.old }
     ensures { Writes (lines shape.rows shape.cols numbers.now) to.old to.new }
@@ -42,7 +42,7 @@ fn write_grid(to: &mut Writer, shape: Shape<MOST>, numbers: &[u32])
 struct Item<'a>(&'a [u8], usize);
 
 // Writes a line of words and numbers.
-fn write_line(to: &mut Writer, list: &[Item])
+fn write_line(to: &mut Writer<'_>, list: &[Item<'_>])
     requires { Room (length (items list.now) + 1) to.old }
     ensures { Writes (items list.now ++ 10 ∷ []) to.old to.new }
 {
@@ -54,7 +54,7 @@ fn write_line(to: &mut Writer, list: &[Item])
 }
 
 // Writes a refusal: its number, and a place and a loop's length where there are any.
-pub fn write_refusal(to: &mut Writer, n: usize, values: &[usize])
+pub fn write_refusal(to: &mut Writer<'_>, n: usize, values: &[usize])
     requires { Room 100 to.old }
     ensures { Writes (refusal n values.now) to.old to.new }
 {
@@ -74,7 +74,7 @@ pub fn write_refusal(to: &mut Writer, n: usize, values: &[usize])
 
 // Writes a whole answer: the shape, the counts by row, and the totals.
 pub fn write_done(
-    to: &mut Writer,
+    to: &mut Writer<'_>,
     shape: Shape<MOST>,
     counts: &[u32],
     land: usize,
