@@ -4,7 +4,7 @@
 
 mod settle;
 
-ghost use Rattle.std.specs.Prelude.{◌≡◌, ◌*◌, length, replicate, []};
+ghost use Rattle.std.specs.Prelude.{◌≡◌, []};
 ghost use Rattle.promise.specs.Links.{Unless};
 ghost use Rattle.promise.specs.Reply.Reply.{reply};
 ghost use Rattle.mosaic_read.specs.Method.{Says};

@@ -6,7 +6,6 @@ mod parts;
 mod reading;
 pub mod record;
 
-ghost use Rattle.std.specs.Prelude.{◌*◌, ◌<◌};
 ghost use Rattle.mosaic_read.specs.Read.{MosaicShape, ReadPromise, read_reply};
 
 use crate::reading::Reading;
