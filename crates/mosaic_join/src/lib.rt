@@ -4,7 +4,7 @@
 
 mod settle;
 
-ghost use Rattle.std.specs.Prelude.{◌≡◌, ◌*◌, length, replicate, []};
+ghost use Rattle.std.specs.Prelude.{◌≡◌, []};
 ghost use Rattle.promise.specs.Links.{Unless};
 ghost use Rattle.promise.specs.Reply.Reply.{reply};
 ghost use Rattle.mosaic_read.specs.Method.{Says};
@@ -20,7 +20,7 @@ use mosaic_step::records::Mosaic;
 use sheet::shape::is_within;
 
 // The paper's refusals of joining.
-#[derive(Clone, Copy)]
+#[derive(Clone, Copy, PartialEq, Eq, Debug)]
 pub enum JoinError {
     Layout(usize),
     Record(usize),
@@ -81,7 +81,7 @@ pub fn join(
     )
 }
 
-// The same where the records are well formed and tell of `n` border cells.
+// The same where the records are well formed and tell of `n` border cells. The work buffers are cleared at last, whatever is found.
 fn join_records(
     mosaic: &Mosaic,
     n: usize,
@@ -104,22 +104,6 @@ fn join_records(
     {
         return Err(JoinError::Length);
     }
-    join_exits(mosaic, incoming, work1, work2, work3, work4, work5)
-}
-
-// The same where the lengths fit too. The work buffers are cleared at last, whatever is found.
-fn join_exits(
-    mosaic: &Mosaic,
-    incoming: &mut [u32],
-    work1: &mut [u32],
-    work2: &mut [u32],
-    work3: &mut [u32],
-    work4: &mut [u32],
-    work5: &mut [u32],
-) -> Result<(), JoinError>
-    requires { LengthsFit mosaic.now incoming.old (works work1.old work2.old work3.old work4.old work5.old) }
-    ensures { ExitsJoined mosaic.now (ends (join_reply result) incoming.new (works work1.new work2.new work3.new work4.new work5.new)) }
-{
     write_net(mosaic, incoming, work1, work2, work3, work5);
     let found = settle(mosaic, incoming, work1, work2, work3, work4, work5);
     work1.fill(0);

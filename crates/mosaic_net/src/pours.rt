@@ -1,5 +1,5 @@
 // What the exits of a mosaic pour onto, and their own counts; then what each exit feeds.
-ghost use Rattle.std.specs.Prelude.{◌≡◌, ◌+◌, ◌<◌, ◌≤◌, length};
+ghost use Rattle.std.specs.Prelude.{◌≡◌, ◌+◌, ◌<◌, length};
 ghost use Rattle.sheet.specs.Grid.{LeadsTo};
 ghost use Rattle.mosaic_step.specs.Mosaic.{all_in};
 ghost use Rattle.mosaic_net.specs.Method.{Filled, feed_at};

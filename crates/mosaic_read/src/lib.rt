@@ -6,13 +6,12 @@ mod parts;
 mod reading;
 pub mod record;
 
-ghost use Rattle.std.specs.Prelude.{◌*◌, ◌<◌};
 ghost use Rattle.mosaic_read.specs.Read.{MosaicShape, ReadPromise, read_reply};
 
 use crate::reading::Reading;
 
 // A field is malformed (8), or a record does not fit the mosaic (9), at a byte.
-#[derive(Clone, Copy)]
+#[derive(Clone, Copy, PartialEq, Eq, Debug)]
 pub enum ReadError {
     Record(usize),
     Layout(usize),

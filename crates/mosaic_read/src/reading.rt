@@ -1,5 +1,5 @@
 // How far reading the records of a mosaic has come, and the step past a record.
-ghost use Rattle.std.specs.Prelude.{◌≡◌, ◌+◌, ◌≤◌};
+ghost use Rattle.std.specs.Prelude.{◌≡◌, ◌≤◌};
 ghost use Rattle.mosaic_read.specs.Method.{Reached, WholeBefore, Says};
 ghost use Rattle.mosaic_read.specs.Records.{start_of};
 
@@ -33,7 +33,7 @@ pub struct Reading<'a> {
 }
 
 impl<'a> Reading<'a> {
-    ghost use Rattle.mosaic_read.specs.Records.{PlacedOk, RecordOk, SidesOk};
+    ghost use Rattle.mosaic_read.specs.Records.{PlacedOk, RecordOk};
     ghost use Rattle.mosaic_read.specs.BorderRecord.{IsAt};
     ghost use Rattle.mosaic_read.specs.Reading.{ReadsRecord, NextRecord};
 

@@ -1,6 +1,6 @@
 // A border record whose field 1 is well formed: its tile, and what its other fields hold of each border cell.
 ghost use Rattle.std.specs.Prelude.{◌≡◌, ◌+◌, ◌*◌, ◌<◌, ◌≤◌, length};
-ghost use Rattle.mosaic_read.specs.Records.{rows_at, cols_at, counts_start, end_at};
+ghost use Rattle.mosaic_read.specs.Records.{rows_at, cols_at, counts_start};
 ghost use Rattle.sheet.specs.Shape.{TileShape};
 ghost use Rattle.tile.specs.Border.{border_cells};
 

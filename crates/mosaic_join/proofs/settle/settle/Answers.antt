@@ -13,12 +13,6 @@ count_net-requires c =
     let n = c.requires.net_written in
     net_lent m.tile_rows m.tile_cols m.records.now m.well_formed c.args.feeds.now c.args.totals.now n.feeds_are n.own_are c.args.waiting.now c.requires.waiting_len
 
-pub tile_of-tile-requires : goal.tile_of-tile-requires
-tile_of-tile-requires c =
-    let m = c.args.mosaic.now in
-    let n = c.requires.net_written in
-    (loop_is m.tile_rows m.tile_cols m.records.now m.well_formed c.args.feeds.now c.args.totals.now n.feeds_are n.own_are c.in-Err.ensures.answers).here.0
-
 pub first-requires : goal.first-requires
 first-requires c =
     let m = c.args.mosaic.now in

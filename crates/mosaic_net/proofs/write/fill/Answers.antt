@@ -5,6 +5,7 @@ use native.Mathlib.Omega.{arith}
 use Prim.Native.Nat.{◌+◌}
 use Rattle.mosaic_step.specs.Mosaic.{all_in}
 use Rattle.mosaic_step.proofs.Known.{before_none}
+use Rattle.mosaic_net.specs.Method.{first_of}
 use Rattle.mosaic_net.proofs.Filled.{filled_none, filled_at, filled_next}
 use Rattle.mosaic_net.proofs.Marks.{below_all, next_first}
 use Rattle.mosaic_net.proofs.Told.{borders_most}
@@ -40,5 +41,6 @@ loop-b-preserved g c =
 pub loop-t-preserved : goal.loop-t-preserved
 loop-t-preserved g c =
     let m = c.args.tiles.now.mosaic in
-    filled_at (all_in m) (g.T.Told.tells c.args.told.now m)
-    (omega (arith, next_first c.tile-tile.result c.tile-tile.ensures.tiles_are c.tile-tile.ensures.number_is)) c.loop-b.invariant
+    let e : c.tile-tile.result.first + c.loop-b.b ≡ first_of m.tile_rows m.tile_cols m.records.now (c.loop-t.t + 1) =
+    omega (arith, next_first c.tile-tile.result c.tile-tile.ensures.tiles_are c.tile-tile.ensures.number_is) in
+    filled_at (all_in m) (g.T.Told.tells c.args.told.now m) e c.loop-b.invariant

@@ -10,9 +10,6 @@ returns-then-j-i c = let a = c.args in omega (arith, number_back a.i a.x a.j a.t
 pub returns-then-i-j : goal.returns-then-i-j
 returns-then-i-j c = let a = c.args in omega (arith, number_on a.i a.x a.j a.there c.if-i-j.true)
 
-pub overflow_sub-result-2 : goal.overflow_sub-result-2
-overflow_sub-result-2 c = c.requires.1 (omega (arith, c.if-j-i.false, c.if-i-j.false))
-
 pub returns : goal.returns
 returns c =
     let a = c.args in
