@@ -1,9 +1,9 @@
 -- Places left without a count.
 -- Assumes nothing.
-use mathlib.Core.Bool.{Bool, true, false, true≢false}
+use mathlib.Core.Bool.{Bool, true, false, true≢false, ◌&&◌}
 use mathlib.Core.List.{List}
 use mathlib.Core.Logic.{inl, inr}
-use mathlib.Core.Path.{◌≡◌, sym, ◌∙◌}
+use mathlib.Core.Path.{◌≡◌, sym, ap, ◌∙◌}
 use Prim.Native.Nat.{ℕ, ◌<◌}
 use lib.Dec.{eqb}
 use lib.ListN.{length, get_or}
@@ -17,16 +17,12 @@ use Rattle.std.specs.Prelude.{Option, Some, None, MatchOption, ◌≤◌}
 use Rattle.promise.specs.First.{Finds}
 use Rattle.loops.specs.Left.{NotLeft, left_at}
 
--- ---- the test, for each way through the code that makes it
+-- ---- the test, as the code makes it
 
 module _ (g c : List ℕ) (p : ℕ) where
-  pub left_land : p < length g → is_arrow (get_or g p 0) ≡ true → eqb (get_or c p 0) 0 ≡ left_at g c p
+  pub left_is : {b : Bool} → p < length g → b ≡ is_arrow (get_or g p 0) → (b && eqb (get_or c p 0) 0) ≡ left_at g c p
   unfolding left_at
-  left_land l e = rw (sym (land_read g p l) ∙ e)
-
-  pub left_absent : {b : Bool} → p < length g → b ≡ is_arrow (get_or g p 0) → b ≡ false → b ≡ left_at g c p
-  unfolding left_at
-  left_absent l e f = f ∙ rw (sym (land_read g p l) ∙ sym e ∙ f)
+  left_is l e = ap (λ x. x && eqb (count_at c p) 0) (e ∙ land_read g p l)
 
   -- what stands at a place that is left, and what does not at one that is not
   pub left_says : left_at g c p ≡ true → (land_at g p ≡ true) × (count_at c p ≡ 0)

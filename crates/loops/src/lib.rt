@@ -12,12 +12,12 @@ use round::{Net, others_on_loop};
 use sheet::compass::is_arrow;
 use sheet::grid::Grid;
 
-// Whether place p is a land cell that is left without a count.
+// Whether place p is a land cell that is left without a count. (Both are read, so that there is no branch.)
 fn is_left(grid: &[u8], counts: &[u32], p: usize) -> bool
     requires { (p < length grid.now) × (p < length counts.now) }
     ensures { result ≡ left_at grid.now counts.now p }
 {
-    is_arrow(grid[p]) && counts[p] == 0
+    is_arrow(grid[p]) & (counts[p] == 0)
 }
 
 // The number of land cells that are left without a count. (No early end, so that many cells are tested at once.)

@@ -1,15 +1,7 @@
--- `loops::is_left` meets its contract: a law of `left_at` for each way through it.
+-- `loops::is_left` meets its contract: the code and the count that are read are those of the place.
 -- Assumes nothing.
-use mathlib.Core.Path.{sym, ◌∙◌}
-use Rattle.loops.proofs.Left.{left_land, left_absent}
+use Rattle.loops.proofs.Left.{left_is}
 use Rattle.loops.proofs.is_left.Goals as goal
 
-pub returns-then-is_arrow : goal.returns-then-is_arrow
-returns-then-is_arrow c =
-    let a = c.args in
-    left_land a.grid.now a.counts.now a.p c.requires.0 (sym c.is_arrow.ensures ∙ c.if-is_arrow.true)
-
-pub returns-else-is_arrow : goal.returns-else-is_arrow
-returns-else-is_arrow c =
-    let a = c.args in
-    left_absent a.grid.now a.counts.now a.p c.requires.0 c.is_arrow.ensures c.if-is_arrow.false
+pub returns : goal.returns
+returns c = left_is c.args.grid.now c.args.counts.now c.args.p c.requires.0 c.is_arrow.ensures
