@@ -1,13 +1,12 @@
 -- `sheet::totals::bad_number` meets its contract: the number of the places passed that the test passes.
 -- Assumes nothing.
 use mathlib.Core.Bool.{not}
-use mathlib.Core.Path.{◌≡◌, sym, ap, ◌∙◌}
+use mathlib.Core.Path.{ap, ◌∙◌}
 use native.Mathlib.Omega.{arith}
 use Prim.Native.Nat.{◌<◌}
 use lib.ListN.{length}
 use Rattle.flow.specs.Net.{sum}
 use Rattle.sheet.specs.Leaves.{bad_at}
-use Rattle.sheet.proofs.Dest.{land_read}
 use Rattle.sheet.proofs.Gather.{one_more, none_more, number_le, bad_read}
 use borrow.Author.Rules.{rules}
 use Rattle.sheet.proofs.totals.bad_number.Goals as goal

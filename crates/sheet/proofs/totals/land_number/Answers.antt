@@ -1,14 +1,13 @@
 -- `sheet::totals::land_number` meets its contract: the number of the places passed that the test passes.
 -- Assumes nothing.
-use mathlib.Core.Bool.{not}
-use mathlib.Core.Path.{◌≡◌, sym, ap, ◌∙◌}
+use mathlib.Core.Path.{sym, ◌∙◌}
 use native.Mathlib.Omega.{arith}
 use Prim.Native.Nat.{◌<◌}
 use lib.ListN.{length}
 use Rattle.flow.specs.Net.{sum}
 use Rattle.sheet.specs.Sheet.{land_at}
 use Rattle.sheet.proofs.Dest.{land_read}
-use Rattle.sheet.proofs.Gather.{one_more, none_more, number_le, bad_read}
+use Rattle.sheet.proofs.Gather.{one_more, none_more, number_le}
 use borrow.Author.Rules.{rules}
 use Rattle.sheet.proofs.totals.land_number.Goals as goal
 use Rattle.sheet.proofs.totals.land_number.Goals.{then-is_arrow, else-is_arrow}
