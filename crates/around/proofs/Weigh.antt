@@ -52,19 +52,9 @@ both_on false b h = absurd (omega arith)
 
 -- what a place adds, from the code that is read there
 module _ (g : List ℕ) (w : ℕ → ℕ) (q x : ℕ) where
-  pub adds_there : q < length g → get_or g q 0 ≡ x → w q ≡ adds g w q x
-  adds_there l e = sym (on_eq (code_at g q) x (w q) (sym (code_read g q l) ∙ e))
-
-  pub adds_not : q < length g → (get_or g q 0 ≡ x → ⊥) → 0 ≡ adds g w q x
-  adds_not l d = sym (on_ne (code_at g q) x (w q) (λ e. d (code_read g q l ∙ e)))
-
   -- beyond the sheet no arrow is found
   pub adds_beyond : length g ≤ q → is_arrow x ≡ true → 0 ≡ adds g w q x
   adds_beyond l a = sym (on_ne (code_at g q) x (w q) (λ e. true≢false (sym a ∙ ap is_arrow (sym e) ∙ (unfold land_at in no_land g q l))))
-
--- the same for the place that a step comes to
-pub adds_from : (g : List ℕ) (w : ℕ → ℕ) (x : ℕ) {v q r : ℕ} → q ≡ r → v ≡ adds g w q x → v ≡ adds g w r x
-adds_from g w x e h = h ∙ ap (λ q. adds g w q x) e
 
 module _ (rows cols : ℕ) (g counts : List ℕ) (p : ℕ) where
   -- the sum of the weighed counts of p's givers: the sum of their counts, and a large number for each that has none

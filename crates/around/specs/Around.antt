@@ -4,6 +4,7 @@ use Rattle.std.specs.Prelude.{Option, Some, None, List, ◌≡◌, ℕ, ◌+◌,
 use Rattle.flow.specs.Net.{on, given}
 use Rattle.sheet.specs.Compass.{step_at}
 use Rattle.sheet.specs.Sheet.{code_at, count_at, step_from, dest_of}
+use Rattle.sheet.specs.Grid.{cells_in}
 use Rattle.sheet.specs.declared.grid.Grid.{Grid}
 
 -- what a look-around at p finds: some giver has no count yet, or all have one, and their sum
@@ -45,3 +46,7 @@ term rows cols g w p j = adds g w (comes_from rows cols p j) (step_at j).0
 -- the same in a grid
 abbrev pub terms : Grid → (ℕ → ℕ) → ℕ → ℕ → ℕ
 terms g w p j = term g.sheet.rows g.sheet.cols g.codes.now w p j
+
+-- each cell of a grid is covered
+abbrev pub Covers : Grid → (ℕ → Type 0) → Type 0
+Covers g Covered = (q : ℕ) → q < cells_in g → Covered q

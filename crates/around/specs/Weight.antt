@@ -7,9 +7,13 @@ use Rattle.sheet.specs.Sheet.{count_at}
 abbrev pub one : ℕ → ℕ
 one q = 1
 
--- a count, or where there is none yet a number above every sum of eight counts
+-- a number above every sum of eight counts
+abbrev pub no_count : ℕ
+no_count = 1099511627776
+
+-- a count, or that number where there is none yet
 unfoldable pub weigh : ℕ → ℕ
-weigh n = cond (eqb n 0) 1099511627776 n
+weigh n = cond (eqb n 0) no_count n
 
 -- the counts so weighed
 abbrev pub weighed : List ℕ → ℕ → ℕ

@@ -3,13 +3,13 @@
 
 pub mod weight;
 
-ghost use Rattle.std.specs.Prelude.{true, ◌≡◌, ◌<◌, ◌≤◌, ◌*◌, ℕ, length};
+ghost use Rattle.std.specs.Prelude.{true, ◌≡◌, ◌<◌, ◌≤◌, length};
 ghost use Rattle.flow.specs.Net.{sum, given};
 ghost use Rattle.sheet.specs.Compass.{is_arrow, step_of};
 ghost use Rattle.sheet.specs.Grid.{OnGrid, cells_in, place_in, land_in, dest_in};
 ghost use Rattle.sheet.specs.Sheet.{count_at, step_from};
-ghost use Rattle.around.specs.Around.{Inner, LooksAround, adds, term, terms};
-ghost use Rattle.around.specs.Weight.{one};
+ghost use Rattle.around.specs.Around.{Covers, Inner, LooksAround, adds, terms};
+ghost use Rattle.around.specs.Weight.{one, no_count};
 
 use crate::weight::{Counts, NO_COUNT, One, Weight};
 use sheet::grid::Grid;
@@ -20,7 +20,7 @@ fn seen<W: Weight>(grid: &Grid<'_>, weight: &W, q: usize, code: u8) -> u64
     requires on_grid { q < cells_in grid.now }
     requires covered { W.covers weight.now q }
     ensures value { result ≡ adds grid.now.codes.now (W.weight weight.now) q code }
-    ensures most { result ≤ 1099511627776 }
+    ensures most { result ≤ no_count }
 {
     if grid.codes[q] == code {
         weight.of(q)
@@ -32,10 +32,10 @@ fn seen<W: Weight>(grid: &Grid<'_>, weight: &W, q: usize, code: u8) -> u64
 // The same of the neighbour one step of `back` from a cell, where there is one.
 fn seen_from<W: Weight>(grid: &Grid<'_>, weight: &W, at: Spot, back: u8, code: u8) -> u64
     requires on_grid { OnGrid grid.now at }
-    requires covered { (q : ℕ) → q < cells_in grid.now → W.covers weight.now q }
+    requires covered { Covers grid.now (W.covers weight.now) }
     requires both_arrows { (is_arrow back ≡ true) × (is_arrow code ≡ true) }
     ensures value { result ≡ adds grid.now.codes.now (W.weight weight.now) (step_from grid.now.sheet.rows grid.now.sheet.cols (step_of back) (place_in grid.now at)) code }
-    ensures most { result ≤ 1099511627776 }
+    ensures most { result ≤ no_count }
 {
     match grid.sheet.beside(at, back) {
         Some(from) => seen(grid, weight, grid.sheet.place(from), code),
@@ -46,7 +46,7 @@ fn seen_from<W: Weight>(grid: &Grid<'_>, weight: &W, at: Spot, back: u8, code: u
 // The sum over the eight neighbours of a place that is not on the edge: eight reads and no test of where they lie.
 fn inner<W: Weight>(grid: &Grid<'_>, weight: &W, p: usize) -> u64
     requires inner { Inner grid.now.sheet.rows grid.now.sheet.cols p }
-    requires covered { (q : ℕ) → q < cells_in grid.now → W.covers weight.now q }
+    requires covered { Covers grid.now (W.covers weight.now) }
     ensures { result ≡ sum 8 (terms grid.now (W.weight weight.now) p) }
 {
     let cols = grid.sheet.cols;
@@ -65,7 +65,7 @@ fn inner<W: Weight>(grid: &Grid<'_>, weight: &W, p: usize) -> u64
 #[tactic(auto, unfolding(sheet::specs::Compass::is_arrow, sheet::specs::Compass::line_of))]
 fn edge<W: Weight>(grid: &Grid<'_>, weight: &W, at: Spot) -> u64
     requires on_grid { OnGrid grid.now at }
-    requires covered { (q : ℕ) → q < cells_in grid.now → W.covers weight.now q }
+    requires covered { Covers grid.now (W.covers weight.now) }
     ensures { result ≡ sum 8 (terms grid.now (W.weight weight.now) (place_in grid.now at)) }
 {
     let east = seen_from(grid, weight, at, 16, 1);
@@ -82,7 +82,7 @@ fn edge<W: Weight>(grid: &Grid<'_>, weight: &W, at: Spot) -> u64
 // The sum over the eight neighbours of a cell whose arrows step onto it.
 fn neighbours<W: Weight>(grid: &Grid<'_>, weight: &W, at: Spot) -> u64
     requires on_grid { OnGrid grid.now at }
-    requires covered { (q : ℕ) → q < cells_in grid.now → W.covers weight.now q }
+    requires covered { Covers grid.now (W.covers weight.now) }
     ensures { result ≡ sum 8 (terms grid.now (W.weight weight.now) (place_in grid.now at)) }
 {
     let Spot { row, col } = at;

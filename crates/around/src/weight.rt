@@ -1,6 +1,6 @@
 // What a neighbour adds to a look-around: 1, or its count. One look-around serves both.
 ghost use Rattle.std.specs.Prelude.{◌≡◌, ◌<◌, ◌≤◌, ℕ, length};
-ghost use Rattle.around.specs.Weight.{one, weigh, weighed};
+ghost use Rattle.around.specs.Weight.{one, no_count, weigh, weighed};
 
 // More than any sum of eight counts: it stands for a count that is not there yet, so that one sum tells both things.
 pub const NO_COUNT: u64 = 1099511627776;
@@ -15,7 +15,7 @@ pub trait Weight {
     fn of(&self, q: usize) -> u64
         requires { covers self.now q }
         ensures value { result ≡ weight self.now q }
-        ensures most { result ≤ 1099511627776 };
+        ensures most { result ≤ no_count };
 }
 
 // Each place adds 1.
@@ -35,7 +35,7 @@ impl Weight for One {
 // A count, or NO_COUNT where there is none yet.
 fn weigh(count: u32) -> u64
     ensures value { result ≡ weigh count }
-    ensures most { result ≤ 1099511627776 }
+    ensures most { result ≤ no_count }
 {
     if count == 0 {
         NO_COUNT

@@ -1,4 +1,4 @@
--- The promise of checking admits one outcome only: one reply, and one answer of the enum.
+-- The promise of checking admits one outcome only: one reply, and one answer of the code.
 -- Assumes nothing.
 use mathlib.Core.Bool.{cond}
 use mathlib.Core.List.{List, []}

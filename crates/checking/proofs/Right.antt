@@ -1,4 +1,4 @@
--- The test of one cell: what it says, and a law for each way through the code that makes it; and places passed row by row.
+-- The test of one cell: what it says, and a law for each way through the code that makes it.
 -- Assumes nothing.
 use mathlib.Core.Bool.{true, false, true≢false}
 use mathlib.Core.List.{List}
@@ -48,14 +48,3 @@ module _ (rows cols : ℕ) (g c : List ℕ) (p : ℕ) where
 -- one place more is right
 pub right_more : (g : Grid) (c : List ℕ) (k : ℕ) {m : ℕ} → m ≡ k + 1 → RightBelow g c k → CountOkIn g c k → RightBelow g c m
 right_more g c k e below here q l = below_more _ _ below here q (omega arith)
-
--- the end of a row, and the start of the next
-pub row_end : (rows cols r : ℕ) → r < rows → r * cols + cols ≤ rows * cols
-row_end rows cols r l = omega (arith, mul-le-mul_right cols l, suc-mul r cols)
-
-pub row_next : (cols r : ℕ) → (r + 1) * cols ≡ r * cols + cols
-row_next cols r = omega (arith, suc-mul r cols, ap (λ (x : ℕ). x * cols) (add-one r))
-
--- the first of some is the first of more
-pub first_further : {n m : ℕ} {Good : ℕ → Type 0} {p : ℕ} → n ≤ m → FirstNot n Good p → FirstNot m Good p
-first_further l s = record { inside = omega (arith, s.inside); here = s.here; before = s.before }

@@ -10,7 +10,7 @@ use Rattle.checking.specs.Check.{CountOk}
 unfoldable pub right_at : ℕ → ℕ → List ℕ → List ℕ → ℕ → Bool
 right_at rows cols grid counts p = eqb (count_at counts p) (unit grid p + given (rows * cols) (dest_of rows cols grid) (count_at counts) p)
 
--- the same of a grid as it is handed on
+-- the same of a grid as the code holds it
 abbrev pub right_in : Grid → List ℕ → ℕ → Bool
 right_in g counts p = right_at g.sheet.rows g.sheet.cols g.codes.now counts p
 

@@ -76,7 +76,3 @@ module _ (n : ℕ) (to : ℕ → ℕ) (out : (p : ℕ) → n ≤ p → n ≤ to 
       let (i, li, e) = first_round to k p back j in
       let h : steps to i p < n = inside_at n to out p (let m : i ≤ suc k = omega arith in m) (omega arith) in
       omega arith
-
--- one step further round
-pub round_on : (to : ℕ → ℕ) (p k : ℕ) {q r : ℕ} → q ≡ steps to (suc k) p → r ≡ to q → r ≡ steps to (suc (k + 1)) p
-round_on to p k e d = d ∙ ap to e ∙ sym (steps_suc to (suc k) p) ∙ ap (λ (m : ℕ). steps to (suc m) p) (sym (add-one k))

@@ -134,9 +134,6 @@ module _ {to c g : List ℕ} (s : Half to c g) (t : ℕ) (ready : Ready to g (So
 -- ---- steps put together
 
 module _ {to : List ℕ} where
-  pub moved_none : {c g : List ℕ} {t : Option ℕ} → Half to c g → Ready to g t → Moved to c g c g t t
-  moved_none s r = record { half = s; ready = r; weighed = λ w a. a; passed = λ k w. w }
-
   pub moved_on : {c g d h e i : List ℕ} {t u v : Option ℕ} → Moved to c g d h t u → Moved to d h e i u v → Moved to c g e i t v
   moved_on m n = record {
     half = n.half;
@@ -146,9 +143,6 @@ module _ {to : List ℕ} where
   }
 
   -- ---- the scan
-
-  pub scanned_none : {c g : List ℕ} → Half to c g → Scanned to c g c g 0
-  scanned_none s = record { half = s; weighed = λ w a. a; passed = λ p l lk. absurd (omega arith) }
 
   -- it passes over cell k, which waits
   pub scanned_over : {c g d h : List ℕ} {k : ℕ} → Scanned to c g d h k → (get_or h k 0 ≡ 0 → ⊥) → Scanned to c g d h (k + 1)

@@ -1,7 +1,7 @@
 // What the scan leaves without a count: the first such land cell, which is the smallest place on any loop, and the length of its loop.
 #![tactic(auto)]
 
-ghost use Rattle.std.specs.Prelude.{◌≡◌, ◌*◌, ◌<◌, length};
+ghost use Rattle.std.specs.Prelude.{◌≡◌, ◌<◌, length};
 ghost use Rattle.flow.specs.Net.{number, loop_length};
 ghost use Rattle.loops.specs.Left.{NotLeft, left_at};
 ghost use Rattle.promise.specs.First.{Finds};

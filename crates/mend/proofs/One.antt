@@ -1,4 +1,4 @@
--- The promise of mending admits one outcome only: one reply, one answer of the enum, and one content of grid and counts.
+-- The promise of mending admits one outcome only: one reply, one answer of the code, and one content of grid and counts.
 -- Assumes nothing.
 use mathlib.Core.Bool.{cond}
 use mathlib.Core.List.{List}

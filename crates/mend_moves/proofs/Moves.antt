@@ -35,14 +35,6 @@ taken_free rows cols g t long lt free =
 -- ---- the look ahead: the new code is stored, and then the old one again
 
 module _ (rows cols : ℕ) (g : List ℕ) (t x : ℕ) (laid : Laid rows cols g g) (lt : t < rows * cols) where
-  pub ahead_laid : Laid rows cols (set g t x) (set g t x)
-  ahead_laid = record {
-    rows_fit = laid.rows_fit;
-    cols_fit = laid.cols_fit;
-    grid_long = changed_long rows cols g t x lt laid.grid_long;
-    counts_long = changed_long rows cols g t x lt laid.grid_long;
-  }
-
   pub ahead_free : SheetNoLoop rows cols g → SheetNoLoop rows cols (set (set g t x) t 255)
   ahead_free free = rw (set-set g t x 255) (taken_free rows cols g t laid.grid_long lt free)
 
@@ -81,14 +73,6 @@ module _ (rows cols : ℕ) (g c : List ℕ) (t : ℕ) (laid : Laid rows cols g c
         (sheet_without rows cols g t lt laid.grid_long) other counts zero_at_lem (omega arith);
   }
 
-  pub taken_laid : Laid rows cols (set g t 255) (set c t 0)
-  taken_laid = record {
-    rows_fit = laid.rows_fit;
-    cols_fit = laid.cols_fit;
-    grid_long = changed_long rows cols g t 255 lt laid.grid_long;
-    counts_long = simp length-set laid.counts_long;
-  }
-
 -- ---- t put in with the code x: the counts are those without t, and t lacks what it is to hold
 
 module _ (rows cols : ℕ) (g c : List ℕ) (t x : ℕ) (laid : Laid rows cols g c) (lt : t < rows * cols) (counts : SheetCounts rows cols (set g t 255) c) where
@@ -111,9 +95,6 @@ module _ (rows cols : ℕ) (g c : List ℕ) (t x : ℕ) (laid : Laid rows cols g
           | inr e ↦ off.rest p l e
         ];
       }
-
-  pub put_laid : Laid rows cols (set g t x) c
-  put_laid = record { rows_fit = laid.rows_fit; cols_fit = laid.cols_fit; grid_long = long; counts_long = laid.counts_long }
 
   module _ (arrow : is_arrow x ≡ true) where
     pub put_land : land_at (set g t x) t ≡ true

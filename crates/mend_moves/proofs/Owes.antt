@@ -58,7 +58,3 @@ module _ (rows cols : ℕ) (g c : List ℕ) (t more less : ℕ) (laid : Laid row
   pub carried_less : {u : ℕ} → u ≡ dest_of rows cols g t → to_go (rows * cols) (dest_of rows cols g) u < to_go (rows * cols) (dest_of rows cols g) t
   carried_less e =
       omega (arith, to_go_falls (rows * cols) (dest_of rows cols g) (dest_beyond rows cols g laid.grid_long) free t lt, ap (to_go (rows * cols) (dest_of rows cols g)) e)
-
--- at the end of the way nothing is owed
-pub all_carried : (rows cols : ℕ) (g c : List ℕ) (t more less : ℕ) → Owing rows cols g c t more less → rows * cols ≤ t → CountsOf rows cols g c
-all_carried rows cols g c t more less s l = record { long = s.long; equation = s.even l }

@@ -7,15 +7,17 @@ use Rattle.sheet.specs.Sheet.{dest_of, unit, count_at, SheetCounts, SheetNoLoop,
 use Rattle.sheet.specs.declared.grid.Grid.{Grid}
 use Rattle.mend_moves.specs.declared.Round.{Round}
 
--- ---- a grid as it is handed on
+-- ---- a grid as the code holds it
 
--- it has no loop; it has none without the cell p
+-- it has no loop
 abbrev pub Free : Grid → Type 0
 Free g = SheetNoLoop g.sheet.rows g.sheet.cols g.codes.now
 
+-- it has none without the cell p
 abbrev pub FreeWithout : Grid → ℕ → Type 0
 FreeWithout g p = SheetNoLoop g.sheet.rows g.sheet.cols (set g.codes.now p 255)
 
+-- its counts
 abbrev pub CountsIn : Grid → List ℕ → Type 0
 CountsIn g counts = CountsOf g.sheet.rows g.sheet.cols g.codes.now counts
 
@@ -52,6 +54,6 @@ pub record Owing (rows cols : ℕ) (grid counts : List ℕ) (t more less : ℕ) 
   pub off : t < rows * cols → Off (rows * cols) (dest_of rows cols grid) (unit grid) (count_at counts) t more less
   pub even : rows * cols ≤ t → SheetCounts rows cols grid counts
 
--- the same of a grid as it is handed on
+-- the same of a grid as the code holds it
 abbrev pub OwingIn : Grid → (counts : List ℕ) (t more less : ℕ) → Type 0
 OwingIn g counts t more less = Owing g.sheet.rows g.sheet.cols g.codes.now counts t more less

@@ -11,6 +11,9 @@ use sheet::compass::is_arrow;
 use sheet::grid::Grid;
 use sheet::shape::Sheet;
 
+// What marks the place of a cell that is taken out.
+const ABSENT: u8 = 255;
+
 // Water that comes round to the cell that it left: `first` is the smallest place that it comes by, and `length` the number of cells.
 #[derive(Clone, Copy, PartialEq, Eq, Debug)]
 pub struct Round {
@@ -81,7 +84,7 @@ pub fn take_out(sheet: Sheet, codes: &mut [u8], counts: &mut [u32], place: usize
 {
     let next = Grid { sheet, codes }.dest(place);
     let held = counts[place];
-    codes[place] = 255;
+    codes[place] = ABSENT;
     counts[place] = 0;
     carry(&Grid { sheet, codes }, counts, next, 0, held);
 }

@@ -12,10 +12,6 @@ use Rattle.promise.specs.Links.Unless.{refused, met}
 use Rattle.promise.specs.Links.UnlessAll.{refused_at, met_all}
 use Rattle.promise.specs.Links.UnlessSome.{refused_with, met_none}
 
--- replies that are equal have equal values
-pub values_same : {n m : ℕ} {vs ws : List ℕ} → reply n vs ≡ reply m ws → vs ≡ ws
-values_same e = cc
-
 -- a reply that has one number has no other
 pub other : {X : Type 0} {n m : ℕ} → eqb n m ≡ false → n ≡ m → X
 other {n = n} {m = m} d e = absurd (true≢false (sym (eq-eqb n m e) ∙ d))

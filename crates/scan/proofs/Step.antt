@@ -143,9 +143,6 @@ module _ (rows cols : ℕ) (g m c : List ℕ) (t : ℕ) (laid : Laid rows cols g
 -- ---- steps put together
 
 module _ (rows cols : ℕ) (g m : List ℕ) where
-  pub moved_none : (c : List ℕ) (t : ℕ) → Laid rows cols g c → RightSoFar rows cols g m c → ToCount rows cols g c t → Moved rows cols g m c c t t
-  moved_none c t s r h = record { long = s.counts_long; right = r; scanned = λ k w. w; to_count = h; outlets_on = refl }
-
   pub moved_on : (a b c : List ℕ) (t u v : ℕ) → Moved rows cols g m a b t u → Moved rows cols g m b c u v → Moved rows cols g m a c t v
   moved_on a b c t u v x y = record {
     long = y.long;

@@ -1,4 +1,4 @@
--- What the functions of the look-around method promise, said of a grid as it is handed on. Nothing here is cited by a public promise.
+-- What the functions of the look-around method promise, said of a grid as the code holds it. Nothing here is cited by a public promise.
 -- Assumes nothing.
 use Rattle.std.specs.Prelude.{List, ℕ, ◌+◌}
 use Rattle.sheet.specs.Grid.{OnGrid, cells_in, place_in}

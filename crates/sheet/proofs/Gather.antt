@@ -35,36 +35,12 @@ number_le n passes =
     let m : number n passes ≤ sum n (λ q. 1) = sum_mono (λ q l. on_le (passes q) 1) in
     omega (arith, sum_ones n)
 
-pub greatest_next : (n : ℕ) (f : ℕ → ℕ) → greatest_below (n + 1) f ≡ max (greatest_below n f) (f n)
-unfolding greatest_below
-greatest_next n f = rw add-one
-
 -- no place passes a test that none passes
 pub number_none : (n : ℕ) (passes : ℕ → Bool) → number n passes ≡ 0 → (p : ℕ) → p < n → passes p ≡ false
 number_none n passes e p l = elim (test (passes p)) [
   | inl t ↦ absurd (omega (arith, sum_at_least n p (λ q. on (passes q) 1) l, on_true 1 t))
   | inr t ↦ t
 ]
-
--- the items of a list that pass a test are as many as the places at which one stands
-module _ {X : Type 0} (passes : X → Bool) (beyond : X) where
-  abbrev items : List X → ℕ
-  items xs = number (length xs) (λ i. passes (get_or xs i beyond))
-
-  one_item : (x : X) (xs : List X) → items (x ∷ xs) ≡ cond (passes x) (1 + items xs) (items xs)
-  one_item x xs =
-      let first = sum_first (length xs) (λ i. on (passes (get_or (x ∷ xs) i beyond)) 1) in
-      elim (test (passes x)) [
-        | inl t ↦ rw t (omega (arith, rw t at first))
-        | inr t ↦ rw t (omega (arith, rw t at first))
-      ]
-
-  no_item : items [] ≡ 0
-  unfolding sum
-  no_item = λ i. 0
-
-  pub number_items : (xs : List X) → count_by passes xs ≡ number (length xs) (λ i. passes (get_or xs i beyond))
-  number_items xs = sym (is_count_by items passes no_item one_item xs)
 
 -- the greatest of n + 1 numbers is the first, or the greatest of those behind it
 greatest_first : (n : ℕ) (f : ℕ → ℕ) → greatest_below (suc n) f ≡ max (f 0) (greatest_below n (λ k. f (suc k)))

@@ -64,13 +64,6 @@ col_of cols r c h = mul-add-mod_self_right r cols c ∙ mod-eq_of_lt h
 pub laid_area : {rows cols : ℕ} {g c : List ℕ} → Laid rows cols g c → rows * cols ≤ 16777216
 laid_area s = mul-le-mul s.rows_fit s.cols_fit
 
-pub place_of : {rows cols : ℕ} {g c : List ℕ} {p : ℕ} → Laid rows cols g c → p < rows * cols → Place rows cols p
-place_of s l = record { rows_fit = s.rows_fit; cols_fit = s.cols_fit; below = l }
-
 -- a sheet or a tile of an allowed shape, with buffers of its length
 pub laid_of : {most rows cols : ℕ} {g c : List ℕ} → Within most rows cols → most ≤ 4096 → length g ≡ rows * cols → length c ≡ rows * cols → Laid rows cols g c
 laid_of s l a b = record { rows_fit = omega (arith, s.rows_most); cols_fit = omega (arith, s.cols_most); grid_long = a; counts_long = b }
-
--- the same sheet with other counts
-pub laid_on : (rows cols : ℕ) (g : List ℕ) {a b : List ℕ} → Laid rows cols g a → length b ≡ rows * cols → Laid rows cols g b
-laid_on rows cols g s e = record { rows_fit = s.rows_fit; cols_fit = s.cols_fit; grid_long = s.grid_long; counts_long = e }

@@ -19,9 +19,6 @@ cell_below {rows} {cols} {r} {c} s = place_lt rows cols r c s.row_in s.col_in
 pub cell_place : {rows cols r c : ℕ} → Cell rows cols r c → Place rows cols (r * cols + c)
 cell_place s = record { rows_fit = s.rows_fit; cols_fit = s.cols_fit; below = cell_below s }
 
-pub cell_fits : {rows cols r c : ℕ} → Cell rows cols r c → r * cols + c < 16777216
-cell_fits s = omega (arith, cell_below s, mul-le-mul s.rows_fit s.cols_fit)
-
 -- the cell of a spot
 pub spot_cell : {rows cols q : ℕ} {s : Spot} → SpotIs rows cols s q → rows ≤ 4096 → cols ≤ 4096 → Cell rows cols s.row s.col
 spot_cell at a b = record { rows_fit = a; cols_fit = b; row_in = at.row_in; col_in = at.col_in }
@@ -36,7 +33,3 @@ spot_on rows cols D R a b e =
     let d = within_true D rows a in
     let r = within_true R cols b in
     record { place_is = e; row_in = omega arith; col_in = omega arith }
-
--- a place is that of its row and its column
-pub place_of_cell : {rows cols p : ℕ} → Place rows cols p → Cell rows cols (p / cols) (p % cols) × (p / cols * cols + p % cols ≡ p)
-place_of_cell {rows} {cols} {p} s = (record { rows_fit = s.rows_fit; cols_fit = s.cols_fit; row_in = row_lt s; col_in = col_lt s }, div-add-mod' p cols)

@@ -1,4 +1,4 @@
--- A sheet with its codes, as it is handed on: its cells, the place of a row and a column, and its net.
+-- A sheet with its codes, as the code holds it: its cells, the place of a row and a column, and its net.
 -- Assumes nothing.
 use Rattle.std.specs.Prelude.{Bool, List, length, Option, Some, None, ◌≡◌, ℕ, ◌*◌, ◌<◌}
 use Rattle.sheet.specs.Leaves.{OnSheet, spot_place}

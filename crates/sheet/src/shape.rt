@@ -1,12 +1,13 @@
 // The shapes that are taken, of a sheet and of a tile; and where a step from a row and a column of a sheet leads.
-ghost use Rattle.std.specs.Prelude.{true, ◌≡◌, ◌+◌, ◌*◌, ◌<◌};
+ghost use Rattle.std.specs.Prelude.{true, ◌≡◌, ◌*◌, ◌<◌};
 ghost use Rattle.sheet.specs.Shape.{Within, within};
 
 use crate::step::{Spot, after};
 
-// The most rows, and the most columns, of a sheet and of a tile.
+// The most rows, and the most columns, of a sheet.
 const SHEET_MOST: usize = 4096;
 
+// The same of a tile.
 const TILE_MOST: usize = 256;
 
 // 1 to `MOST` rows and 1 to `MOST` columns.
