@@ -4,7 +4,7 @@
 use Rattle.std.specs.Prelude.{List, ◌≡◌, ℕ, ◌<◌, ◌≤◌, Result, Ok, Err, length, get_or}
 use Rattle.flow.specs.Net.{sum, Counts, NoLoop, FirstLoop}
 use Rattle.sheet.specs.Sheet.{count_at}
-use Rattle.listed_net.specs.declared.NetLoop.{NetLoop}
+use Rattle.round.specs.declared.LoopFound.{LoopFound}
 
 -- where the water of p goes; beyond the list to no cell
 unfoldable pub to_at : List ℕ → ℕ → ℕ
@@ -23,12 +23,12 @@ pub record NetCounts (to weights totals : List ℕ) : Type 0 where
   pub counts : Counts (length to) (to_at to) (count_at weights) (count_at totals)
 
 -- what each answer says
-abbrev pub Answers : (to weights totals : List ℕ) → Result Unit NetLoop → Type 0
+abbrev pub Answers : (to weights totals : List ℕ) → Result Unit LoopFound → Type 0
 Answers to weights totals (Ok done) = NetCounts to weights totals
 Answers to weights totals (Err loop) = FirstLoop (length to) (to_at to) loop.first loop.length
 
 -- the promise: what the answer says, and both buffers keep their lengths
-pub record NetPromise (to weights totals waiting : List ℕ) (r : Result Unit NetLoop) : Type 0 where
+pub record NetPromise (to weights totals waiting : List ℕ) (r : Result Unit LoopFound) : Type 0 where
   pub totals_long : length totals ≡ length to
   pub waiting_long : length waiting ≡ length to
   pub answers : Answers to weights totals r

@@ -9,18 +9,11 @@ ghost use Rattle.listed_net.specs.Net.{NetLent, NetPromise};
 
 use crate::arrows::{Arrows, gather};
 use crate::method::{first_open, scan};
-use round::others_on_loop;
-
-// The smallest cell on any loop, and the length of its loop.
-#[derive(Clone, Copy, Debug, PartialEq, Eq)]
-pub struct NetLoop {
-    pub first: usize,
-    pub length: usize,
-}
+use round::{LoopFound, others_on_loop};
 
 // Counts on the net `to`: the totals hold the weights at first, and the counts when done. After a loop the totals and the work buffer may
 // hold anything.
-pub fn count_net(to: &[u32], totals: &mut [u32], waiting: &mut [u32]) -> Result<(), NetLoop>
+pub fn count_net(to: &[u32], totals: &mut [u32], waiting: &mut [u32]) -> Result<(), LoopFound>
     requires { NetLent to.now totals.old waiting.old }
     ensures { NetPromise to.now totals.old totals.new waiting.new result }
 {
@@ -31,7 +24,7 @@ pub fn count_net(to: &[u32], totals: &mut [u32], waiting: &mut [u32]) -> Result<
     match first_open(waiting) {
         Some(first) => {
             let length = others_on_loop(&Arrows { to }, first) + 1;
-            Err(NetLoop { first, length })
+            Err(LoopFound { first, length })
         }
         None => Ok(()),
     }

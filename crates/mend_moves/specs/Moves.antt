@@ -5,7 +5,7 @@ use Rattle.flow.specs.Net.{steps}
 use Rattle.flow.proofs.Mend.{Off}
 use Rattle.sheet.specs.Sheet.{dest_of, unit, count_at, SheetCounts, SheetNoLoop, FirstSheetLoop, CountsOf}
 use Rattle.sheet.specs.declared.grid.Grid.{Grid}
-use Rattle.mend_moves.specs.declared.Round.{Round}
+use Rattle.round.specs.declared.LoopFound.{LoopFound}
 
 -- ---- a grid as the code holds it
 
@@ -35,7 +35,7 @@ landing n None = n
 -- ---- following the water of a cell without which the sheet has no loop
 
 -- it comes back, and has gone round the first loop; or it does not, and there is no loop
-abbrev pub Follows : ℕ → ℕ → List ℕ → Option Round → Type 0
+abbrev pub Follows : ℕ → ℕ → List ℕ → Option LoopFound → Type 0
 Follows rows cols grid (Some r) = FirstSheetLoop rows cols grid r.first r.length
 Follows rows cols grid None = SheetNoLoop rows cols grid
 

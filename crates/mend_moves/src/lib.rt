@@ -7,6 +7,7 @@ ghost use Rattle.sheet.specs.Sheet.{SheetCounts, SheetNoLoop, CountsOf};
 ghost use Rattle.mend_moves.specs.Moves.{Follows, FreeWithout, Free, OwingIn, Lands, landing, CountsIn};
 
 use around::givers_sum;
+use round::LoopFound;
 use sheet::compass::is_arrow;
 use sheet::grid::Grid;
 use sheet::shape::Sheet;
@@ -14,15 +15,8 @@ use sheet::shape::Sheet;
 // What marks the place of a cell that is taken out.
 const ABSENT: u8 = 255;
 
-// Water that comes round to the cell that it left: `first` is the smallest place that it comes by, and `length` the number of cells.
-#[derive(Clone, Copy, PartialEq, Eq, Debug)]
-pub struct Round {
-    pub first: usize,
-    pub length: usize,
-}
-
 // Follows the water of `start` once, until it comes round or goes to no land cell. Without that cell the sheet has no loop.
-fn follow(grid: &Grid<'_>, start: usize) -> Option<Round>
+fn follow(grid: &Grid<'_>, start: usize) -> Option<LoopFound>
     requires start_bound { start < cells_in grid.now }
     requires no_other_loop { FreeWithout grid.now start }
     ensures { Follows grid.now.sheet.rows grid.now.sheet.cols grid.now.codes.now result }
@@ -33,7 +27,7 @@ fn follow(grid: &Grid<'_>, start: usize) -> Option<Round>
     while let Some(p) = next {
         if p == start {
             let length = further + 1;
-            return Some(Round { first, length });
+            return Some(LoopFound { first, length });
         }
         first = first.min(p);
         further += 1;
@@ -43,7 +37,7 @@ fn follow(grid: &Grid<'_>, start: usize) -> Option<Round>
 }
 
 // Where the water of `place` would go with the new code. The grid is left as it was.
-pub fn look_ahead(sheet: Sheet, codes: &mut [u8], place: usize, new: u8) -> Option<Round>
+pub fn look_ahead(sheet: Sheet, codes: &mut [u8], place: usize, new: u8) -> Option<LoopFound>
     requires codes_len { length codes.old ≡ sheet.rows * sheet.cols }
     requires place_bound { place < sheet.rows * sheet.cols }
     requires no_loop { SheetNoLoop sheet.rows sheet.cols codes.old }

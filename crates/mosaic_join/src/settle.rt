@@ -7,9 +7,10 @@ ghost use Rattle.mosaic_join.specs.Mosaic.{ExitsJoined, work_cleared, tile_in};
 
 use crate::JoinError;
 use listed_net::arrows::gather;
-use listed_net::{NetLoop, count_net};
+use listed_net::count_net;
 use mosaic_step::records::Mosaic;
 use mosaic_step::tiles::Tiles;
+use round::LoopFound;
 
 // The tile of border cell g: the last whose first border number is not above it.
 fn tile_of(tiles: &Tiles, g: usize) -> usize
@@ -42,7 +43,7 @@ pub fn settle(
     ensures totals_len { length totals.new ≡ all_in mosaic.now }
     ensures waiting_stays { length waiting.new ≡ all_in mosaic.now }
 {
-    if let Err(NetLoop { first, length }) = count_net(feeds, totals, waiting) {
+    if let Err(LoopFound { first, length }) = count_net(feeds, totals, waiting) {
         let tiles = Tiles {
             mosaic: *mosaic,
             table,

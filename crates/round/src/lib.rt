@@ -1,8 +1,15 @@
-// A net that code can follow, and the walk round one of its loops.
+// A net that code can follow, the walk round one of its loops, and what is told of a loop that is found.
 #![tactic(auto)]
 
 ghost use Rattle.std.specs.Prelude.{ℕ, ◌≡◌, ◌+◌, ◌^◌, ◌<◌, ◌≤◌, SomeIff};
 ghost use Rattle.flow.specs.Net.{OnLoop, loop_length};
+
+// A loop that is found: the smallest cell on it, and how many cells it has.
+#[derive(Clone, Copy, PartialEq, Eq, Debug)]
+pub struct LoopFound {
+    pub first: usize,
+    pub length: usize,
+}
 
 // A net whose arrows can be followed.
 pub trait Net {
