@@ -25,7 +25,7 @@ pub fn read_records(tile_rows: usize, tile_cols: usize, records: &[u8]) -> Resul
 {
     let tiles = tile_rows * tile_cols;
     let mut reading = Reading::new(records, tile_cols);
-    for t in 0..tiles {
+    for _ in 0..tiles {
         let record = reading.read()?;
         reading = reading.past(&record);
     }

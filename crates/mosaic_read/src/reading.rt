@@ -14,7 +14,7 @@ fn start_of(records: &[u8], t: usize) -> usize
     ensures { result ≡ start_of records.now t }
 {
     let mut start = 0;
-    for q in 0..t {
+    for _ in 0..t {
         start = BorderRecord::at(records, start).end();
     }
     start
