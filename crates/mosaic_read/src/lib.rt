@@ -5,6 +5,7 @@ mod bytes;
 mod parts;
 mod reading;
 pub mod record;
+pub mod way;
 
 ghost use Rattle.mosaic_read.specs.Read.{MosaicShape, ReadPromise, read_reply};
 
