@@ -1,4 +1,4 @@
--- Joining the records of a mosaic, as it is handed on.
+-- Joining the records of a mosaic, as the code holds it. Nothing here is cited by a public promise.
 -- Assumes nothing.
 use Rattle.std.specs.Prelude.{List, ℕ}
 use Rattle.mosaic_read.specs.Said.{record_of}

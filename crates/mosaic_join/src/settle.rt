@@ -12,8 +12,8 @@ use mosaic_step::records::Mosaic;
 use mosaic_step::tiles::Tiles;
 use round::LoopFound;
 
-// The tile of border cell g: the last whose first border number is not above it.
-fn tile_of(tiles: &Tiles, g: usize) -> usize
+// The tile that holds border cell g: the last whose first border number is not above it.
+fn tile_holding(tiles: &Tiles, g: usize) -> usize
     requires { g < all_in tiles.now.mosaic }
     ensures { result ≡ tile_in tiles.now.mosaic g }
 {
@@ -48,7 +48,7 @@ pub fn settle(
             mosaic: *mosaic,
             table,
         };
-        let tile = tile_of(&tiles, first);
+        let tile = tile_holding(&tiles, first);
         return Err(JoinError::Loop {
             tile,
             border: first - tiles.first(tile),

@@ -14,8 +14,10 @@ use Rattle.mosaic.specs.Join.{is_land, exit_at, onto, leads_to, own}
 use Rattle.mosaic.specs.Layout.{borders_in}
 use Rattle.mosaic.proofs.Fed.{exit_at_lem, leads_none, leads_way}
 use Rattle.mosaic_read.specs.BorderRecord.{record_count, record_way, record_code}
+use Rattle.mosaic_read.specs.BorderWay.{IsAbsent, EndsInside, LeadsOver}
 use Rattle.mosaic_read.specs.Records.{borders_of, way_in, heights, widths}
 use Rattle.mosaic_read.specs.Said.{borders, said_count, said_way, said_code}
+use Rattle.mosaic_read.proofs.Sides.{borders_most as most}
 use Rattle.mosaic_step.specs.Table.{WellFormed}
 use Rattle.mosaic_step.specs.Mosaic.{all_in}
 use Rattle.mosaic_step.specs.Tiles.{sought_by}
@@ -132,7 +134,14 @@ module _ (m : MosaicTile) (b : ℕ) (lb : b < m.border.borders) where
 
   -- ---- where it leads
 
-  pub lead_way : {e : ℕ} → e ≡ record_way m.border b → (e ≡ 65535 → ⊥) → m.first + e ≡ leads_by I J bytes (m.first + b)
+  -- a way that is neither mark names a border cell
+  over_way : {number code : ℕ} → LeadsOver m.border b number code → number ≡ 65535 → ⊥
+  over_way o e =
+      let leads = ((w.records t m.stands.tile).ways.ways b in_record).leads
+      (λ x. o.not_absent (way_is m b ∙ x.0, code_is m b ∙ x.1)) (λ x. o.not_inside (way_is m b ∙ x.0, code_is m b ∙ x.1)) in
+      omega (arith, e, o.number_is, way_is m b, leads.border, size m, most m.border)
+
+  lead_way : {e : ℕ} → e ≡ record_way m.border b → (e ≡ 65535 → ⊥) → m.first + e ≡ leads_by I J bytes (m.first + b)
   lead_way {e} is d =
       let said : said_way bytes I J (m.first + b) ≡ e = sym (is ∙ way_here) in
       let there : said_way bytes I J (first_of I J bytes t + b) ≡ e = ap (said_way bytes I J) (sym here) ∙ said in
@@ -141,17 +150,20 @@ module _ (m : MosaicTile) (b : ℕ) (lb : b < m.border.borders) where
       ∙ ap (leads I J bytes w) (sym here)
       ∙ sym (mark_land I J (heights bytes J) (widths bytes) (said_way bytes I J) (said_code bytes I J) (m.first + b) (land_way (said_way bytes I J) (said_code bytes I J) (m.first + b) (λ x. d (sym said ∙ x))))
 
-  pub lead_absent : record_way m.border b ≡ 65535 → record_code m.border b ≡ 255 → borders I J bytes + 1 ≡ leads_by I J bytes (m.first + b)
-  lead_absent e d =
+  pub lead_over : {number code : ℕ} → LeadsOver m.border b number code → m.first + number ≡ leads_by I J bytes (m.first + b)
+  lead_over o = lead_way o.number_is (over_way o)
+
+  pub lead_absent : IsAbsent m.border b → borders I J bytes + 1 ≡ leads_by I J bytes (m.first + b)
+  lead_absent (e, d) =
       sym (mark_absent I J (heights bytes J) (widths bytes) (said_way bytes I J) (said_code bytes I J) (m.first + b)
       (land_not (said_way bytes I J) (said_code bytes I J) (m.first + b) (sym way_here ∙ e) (sym code_here ∙ d)))
 
-  pub lead_ends : record_way m.border b ≡ 65535 → (record_code m.border b ≡ 255 → ⊥) → borders I J bytes ≡ leads_by I J bytes (m.first + b)
-  lead_ends e d =
+  pub lead_ends : EndsInside m.border b → borders I J bytes ≡ leads_by I J bytes (m.first + b)
+  lead_ends (e, d) =
       let there : said_way bytes I J (first_of I J bytes t + b) ≡ 65535 = ap (said_way bytes I J) (sym here) ∙ sym way_here ∙ e in
       sym (leads_none I J (heights bytes J) (widths bytes) (said_way bytes I J) (said_code bytes I J) t b m.stands.tile in_tile there)
       ∙ ap (leads I J bytes w) (sym here)
-      ∙ sym (mark_land I J (heights bytes J) (widths bytes) (said_way bytes I J) (said_code bytes I J) (m.first + b) (land_code (said_way bytes I J) (said_code bytes I J) (m.first + b) (sym way_here ∙ e) (λ x. d (code_here ∙ x))))
+      ∙ sym (mark_land I J (heights bytes J) (widths bytes) (said_way bytes I J) (said_code bytes I J) (m.first + b) (land_code (said_way bytes I J) (said_code bytes I J) (m.first + b) (sym way_here ∙ e) (λ x. omega (arith, d, code_here, x))))
 
   pub lead_most : leads_by I J bytes (m.first + b) < 65282
   lead_most = leads_most I J bytes w (m.first + b) here_below

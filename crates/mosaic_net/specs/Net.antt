@@ -1,4 +1,4 @@
--- What is written of a mosaic, as it is handed on: one number for each of its border cells.
+-- What is written of a mosaic, as the code holds it: one number for each of its border cells. Nothing here is cited by a public promise.
 -- Assumes nothing.
 use Rattle.std.specs.Prelude.{List, ℕ}
 use Rattle.mosaic_net.specs.Method.{Filled, leads_by, pours_by, own_by, NetWritten}

@@ -4,7 +4,7 @@ ghost use Rattle.mosaic_step.specs.Mosaic.{all_in};
 ghost use Rattle.mosaic_net.specs.Net.{leads_in};
 
 use crate::write::Told;
-use mosaic_read::record::{ABSENT, NO_WAY};
+use mosaic_read::way::BorderWay;
 use mosaic_step::tiles::MosaicTile;
 
 // The exit that a border cell leads to, by its number in the mosaic, whose border cells are `none` in number; that where the water ends inside,
@@ -20,13 +20,10 @@ impl Told for Leads {
     ghost tells = { λ _ m. leads_in m };
 
     fn tell(&self, tile: &MosaicTile, b: usize) -> u32 {
-        let way = tile.border.way(b);
-        if way != NO_WAY {
-            return (tile.first + way) as u32;
+        match tile.border.told(b) {
+            BorderWay::Absent => (self.none + 1) as u32,
+            BorderWay::Inside => self.none as u32,
+            BorderWay::Over { number, .. } => (tile.first + number) as u32,
         }
-        if tile.border.code(b) != ABSENT {
-            return self.none as u32;
-        }
-        (self.none + 1) as u32
     }
 }

@@ -5,16 +5,8 @@ use mathlib.Core.Path.{◌≡◌, sym, ap, ◌∙◌}
 use Prim.Native.Nat.{ℕ, ◌+◌, ◌*◌, ◌/◌, ◌%◌, ◌≤◌, ◌<◌}
 use native.Mathlib.Omega.{arith}
 use Rattle.flow.proofs.Sum.{sum_suc}
-use Rattle.mosaic.proofs.Pieces.{spot_is}
 use Rattle.mosaic_read.specs.Records.{start_of, rows_at, cols_at, tile_row_at, tile_col_at, rows_of, cols_of, heights, widths, PlacedOk}
 use Rattle.mosaic_read.specs.Method.{Reached}
-
--- the first record of the tile row, and that of the tile column, stand no later
-pub row_first : (J t : ℕ) → t / J * J ≤ t
-row_first J t = omega (arith, spot_is J t)
-
-pub col_first : (J t : ℕ) → t % J ≤ t
-col_first J t = omega (arith, spot_is J t)
 
 module _ {bytes : List ℕ} {J t o above left : ℕ} (r : Reached bytes J t o above left) where
   -- the sides, as they are read at two starts

@@ -1,4 +1,5 @@
--- A border record whose field 1 is well formed, as it is handed on: what reading one answers, and its fields in the words of Records.
+-- A border record whose field 1 is well formed, as the code holds it: what reading one answers, and its fields in the words of Records. Nothing here is
+-- cited by a public promise.
 -- Assumes nothing.
 use Rattle.std.specs.Prelude.{Option, Some, None, List, ◌≡◌, ℕ, ◌≤◌, length}
 use Rattle.mosaic_read.specs.Records.{cell_count, cell_way, cell_code, end_at, SidesOk, CountsOk, WayOk, WaysOk}

@@ -3,4 +3,5 @@ pub mod Said
 pub mod Read
 pub mod Method
 pub mod BorderRecord
+pub mod BorderWay
 pub mod Reading

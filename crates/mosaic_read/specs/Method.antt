@@ -1,4 +1,4 @@
--- What the functions that read a part of a record ask and promise. Nothing here is cited by the public promise.
+-- What the functions that read a part of a record ask and promise. Nothing here is cited by a public promise.
 -- Assumes nothing.
 use Rattle.std.specs.Prelude.{Bool, true, false, List, ◌≡◌, ℕ, suc, ◌/◌, ◌%◌, ◌<◌, ◌≤◌, length}
 use Rattle.flow.specs.Net.{sum}

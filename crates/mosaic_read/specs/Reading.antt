@@ -1,4 +1,5 @@
--- How far reading the records of a mosaic has come: what reading the next record answers, and what is past it.
+-- How far reading the records of a mosaic has come: what reading the next record answers, and what is past it. Nothing here is
+-- cited by a public promise.
 -- Assumes nothing.
 use Rattle.std.specs.Prelude.{Result, Ok, Err, ◌≡◌, ◌+◌}
 use Rattle.mosaic_read.specs.BorderRecord.{IsAt}

@@ -1,10 +1,11 @@
 // Reading the border records of a mosaic: whether they are well formed, or the first fault.
 #![tactic(auto)]
 
-pub mod bytes;
+mod bytes;
 mod parts;
 mod reading;
 pub mod record;
+pub mod way;
 
 ghost use Rattle.mosaic_read.specs.Read.{MosaicShape, ReadPromise, read_reply};
 
@@ -25,7 +26,7 @@ pub fn read_records(tile_rows: usize, tile_cols: usize, records: &[u8]) -> Resul
 {
     let tiles = tile_rows * tile_cols;
     let mut reading = Reading::new(records, tile_cols);
-    for t in 0..tiles {
+    for _ in 0..tiles {
         let record = reading.read()?;
         reading = reading.past(&record);
     }

@@ -4,7 +4,8 @@ ghost use Rattle.mosaic_read.specs.Records.{ways_start};
 ghost use Rattle.mosaic_read.specs.Method.{Says};
 
 use crate::bytes::two_at;
-use crate::record::{ABSENT, BorderRecord, ENDS_INSIDE, NO_WAY};
+use crate::record::BorderRecord;
+use crate::way::BorderWay;
 use sheet::compass::is_arrow;
 use tile::border::border_spot;
 
@@ -37,34 +38,29 @@ impl BorderRecord<'_> {
         ensures { Says (RecordWayOk self.now b) result }
     {
         let count = self.count(b);
-        let way = self.way(b);
-        let code = self.code(b);
-        if way == NO_WAY {
-            if code == ABSENT {
-                return count == 0;
+        match self.told(b) {
+            BorderWay::Absent => count == 0,
+            BorderWay::Inside => count != 0,
+            BorderWay::Over { number, code } => {
+                if count == 0 {
+                    return false;
+                }
+                if self.borders <= number {
+                    return false;
+                }
+                if self.way(number) != number {
+                    return false;
+                }
+                if self.code(number) != code {
+                    return false;
+                }
+                if !is_arrow(code) {
+                    return false;
+                }
+                let spot = border_spot(self.tile, number);
+                self.tile.sheet().beside(spot, code).is_none()
             }
-            if code != ENDS_INSIDE {
-                return false;
-            }
-            return count != 0;
         }
-        if count == 0 {
-            return false;
-        }
-        if self.borders <= way {
-            return false;
-        }
-        if self.way(way) != way {
-            return false;
-        }
-        if self.code(way) != code {
-            return false;
-        }
-        if !is_arrow(code) {
-            return false;
-        }
-        let spot = border_spot(self.tile, way);
-        self.tile.sheet().beside(spot, code).is_none()
     }
 
     // Whether field 3 is well formed.

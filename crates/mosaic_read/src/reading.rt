@@ -14,7 +14,7 @@ fn start_of(records: &[u8], t: usize) -> usize
     ensures { result ≡ start_of records.now t }
 {
     let mut start = 0;
-    for q in 0..t {
+    for _ in 0..t {
         start = BorderRecord::at(records, start).end();
     }
     start
@@ -55,8 +55,8 @@ impl<'a> Reading<'a> {
     }
 
     // Whether record t fits the mosaic.
-    fn placed_ok(&self, found: &BorderRecord) -> bool
-        requires { IsAt self.now.records.now self.now.start found.now }
+    fn placed_ok(&self, border: &BorderRecord) -> bool
+        requires { IsAt self.now.records.now self.now.start border.now }
         ensures { Says (PlacedOk self.now.records.now self.now.tile_cols self.now.t) result }
     {
         let bytes = self.records;
@@ -69,17 +69,17 @@ impl<'a> Reading<'a> {
             return false;
         }
         let beginning = start_of(bytes, i * self.tile_cols);
-        if found.tile.rows != two_at(bytes, beginning + 3) {
+        if border.tile.rows != two_at(bytes, beginning + 3) {
             return false;
         }
         let top = start_of(bytes, j);
-        if found.tile.cols != two_at(bytes, top + 5) {
+        if border.tile.cols != two_at(bytes, top + 5) {
             return false;
         }
-        if Sheet::MOST_ROWS < self.above + found.tile.rows {
+        if Sheet::MOST_ROWS < self.above + border.tile.rows {
             return false;
         }
-        self.left + found.tile.cols <= Sheet::MOST_COLS
+        self.left + border.tile.cols <= Sheet::MOST_COLS
     }
 
     // Reads record t, part by part.
@@ -102,28 +102,23 @@ impl<'a> Reading<'a> {
     }
 
     // Past record t.
-    pub fn past(&self, found: &BorderRecord) -> Self
-        requires is_at { IsAt self.now.records.now self.now.start found.now }
+    pub fn past(&self, border: &BorderRecord) -> Self
+        requires is_at { IsAt self.now.records.now self.now.start border.now }
         requires well_formed { RecordOk self.now.records.now self.now.tile_cols self.now.t }
         ensures { NextRecord self.now result }
     {
-        if self.t % self.tile_cols + 1 == self.tile_cols {
-            return Reading {
-                records: self.records,
-                tile_cols: self.tile_cols,
-                t: self.t + 1,
-                start: found.end(),
-                above: self.above + found.tile.rows,
-                left: 0,
-            };
-        }
+        let (above, left) = if self.t % self.tile_cols + 1 == self.tile_cols {
+            (self.above + border.tile.rows, 0)
+        } else {
+            (self.above, self.left + border.tile.cols)
+        };
         Reading {
             records: self.records,
             tile_cols: self.tile_cols,
             t: self.t + 1,
-            start: found.end(),
-            above: self.above,
-            left: self.left + found.tile.cols,
+            start: border.end(),
+            above,
+            left,
         }
     }
 }

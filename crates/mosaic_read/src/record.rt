@@ -8,13 +8,6 @@ use crate::bytes::{four_at, two_at};
 use sheet::shape::Tile;
 use tile::border::border_cells;
 
-// What a way holds where it names no border cell: this number, with one code where the cell is absent and another where the water ends inside.
-pub const NO_WAY: usize = 65535;
-
-pub const ABSENT: u8 = 255;
-
-pub const ENDS_INSIDE: u8 = 0;
-
 // The bytes it stands in, the byte it begins at, its tile, and how many border cells the tile has.
 #[derive(Clone, Copy)]
 pub struct BorderRecord<'a> {

@@ -19,7 +19,6 @@ use Rattle.mosaic_read.specs.Said.{said_count, said_way, said_code}
 use Rattle.mosaic_read.proofs.Said as R
 use Rattle.mosaic_read.proofs.Shapes.{rows_height, cols_width, borders_in_lem, read_fits}
 use Rattle.mosaic_read.proofs.Starts.{start_none, start_next}
-use Rattle.mosaic_step.specs.Exit.{Exit}
 use Rattle.mosaic_step.specs.Table.{WellFormed}
 
 module _ {I J : ℕ} {bytes : List ℕ} (w : WellFormed I J bytes) where
@@ -61,16 +60,16 @@ module _ {I J : ℕ} {bytes : List ℕ} (w : WellFormed I J bytes) where
       pub said_code_lem : said_code bytes I J (borders_before J (heights bytes J) (widths bytes) t + b) ≡ code_in bytes t b
       said_code_lem = R.said_code_lem bytes I J t b l lb_in
 
-    -- the way of an exit leads out of its tile
-    exit_leads : (b : ℕ) → Exit bytes t b → Leads bytes (start_of bytes t) (rows_of bytes t) (cols_of bytes t) (borders_of bytes t) b
-    exit_leads b e = R.leads_out (w.records t l) b e.border (λ m. omega (arith, m, e.itself, e.border, borders_most))
+    -- the way of an exit, which is the exit itself, leads out of its tile
+    module _ (b : ℕ) (border : b < borders_of bytes t) (itself : way_in bytes t b ≡ b) where
+      exit_leads : Leads bytes (start_of bytes t) (rows_of bytes t) (cols_of bytes t) (borders_of bytes t) b
+      exit_leads = R.leads_out (w.records t l) b border (λ m. omega (arith, m, itself, border, borders_most))
 
-    pub exit_arrow : (b : ℕ) → Exit bytes t b → is_arrow (code_in bytes t b) ≡ true
-    exit_arrow b e = (exit_leads b e).arrow
+      pub exit_arrow : is_arrow (code_in bytes t b) ≡ true
+      exit_arrow = exit_leads.arrow
 
-    pub exit_outside : (b : ℕ) → Exit bytes t b
-        → rows_of bytes t * cols_of bytes t ≤ step_from (rows_of bytes t) (cols_of bytes t) (step_of (code_in bytes t b)) (border_place (rows_of bytes t) (cols_of bytes t) b)
-    exit_outside b e = rw e.itself at (exit_leads b e).outside
+      pub exit_outside : rows_of bytes t * cols_of bytes t ≤ step_from (rows_of bytes t) (cols_of bytes t) (step_of (code_in bytes t b)) (border_place (rows_of bytes t) (cols_of bytes t) b)
+      exit_outside = rw itself at exit_leads.outside
 
   -- ---- the sides of tile rows and tile columns
 

@@ -24,7 +24,7 @@ module _ (m : MosaicTile) where
   w : WellFormed m.tiles.mosaic.tile_rows J bytes
   w = m.tiles.mosaic.well_formed
 
-  pub number_is : m.number ≡ m.place.row * J + m.place.col
+  pub number_is : m.number ≡ m.spot.row * J + m.spot.col
   number_is = omega (arith, spot_is J m.number, ap (λ (x : ℕ). x * J) m.stands.row, m.stands.col)
 
   pub tall : m.border.tile.rows ≡ height_of J (heights bytes J) m.number

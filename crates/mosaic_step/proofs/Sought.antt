@@ -11,9 +11,9 @@ use Rattle.tile.specs.Border.{border_place}
 use Rattle.mosaic.specs.Layout.{height_of, width_of, cells_in, borders_in, borders_before, all_borders, place_in}
 use Rattle.mosaic.specs.Join.{onto}
 use Rattle.mosaic.proofs.Steps.{down, right}
-use Rattle.mosaic_read.specs.Records.{heights, widths, code_in}
+use Rattle.mosaic_read.specs.Records.{borders_of, heights, widths, way_in, code_in}
 use Rattle.mosaic_read.specs.Said.{said_code}
-use Rattle.mosaic_step.specs.Exit.{TileIs, Exit}
+use Rattle.mosaic_step.specs.Stands.{TileIs}
 use Rattle.mosaic_step.specs.Line.{piece_after, number_after}
 use Rattle.mosaic_step.specs.Table.{WellFormed}
 use Rattle.mosaic_step.proofs.Crossing.{Found, cross_rows, cross_cols, cross_to}
@@ -32,9 +32,9 @@ pub record Standing (J : ℕ) (bytes : List ℕ) (t b rows cols r c a : ℕ) : T
 abbrev pub sought_in : (I J : ℕ) → List ℕ → ℕ → ℕ → ℕ
 sought_in I J bytes t b = onto I J (heights bytes J) (widths bytes) (said_code bytes I J) (borders_before J (heights bytes J) (widths bytes) t + b)
 
-module _ {I J : ℕ} {bytes : List ℕ} {t i j b rows cols r c a : ℕ} (w : WellFormed I J bytes) (at : TileIs I J t i j) (e : Exit bytes t b) (s : Standing J bytes t b rows cols r c a) where
+module _ {I J : ℕ} {bytes : List ℕ} {t i j b rows cols r c a : ℕ} (w : WellFormed I J bytes) (at : TileIs I J t i j) (border : b < borders_of bytes t) (itself : way_in bytes t b ≡ b) (s : Standing J bytes t b rows cols r c a) where
   pub exit_code : is_arrow a ≡ true
-  exit_code = rw s.code (exit_arrow w t at.tile b e)
+  exit_code = rw s.code (exit_arrow w t at.tile b border itself)
 
   -- ---- what the laws of crossing ask
 
@@ -42,17 +42,17 @@ module _ {I J : ℕ} {bytes : List ℕ} {t i j b rows cols r c a : ℕ} (w : Wel
   stands = ap (λ (x : ℕ). r * x + c) (sym s.width) ∙ s.place_is ∙ ap₂ (λ (x y : ℕ). border_place x y b) s.height s.width
 
   says : said_code bytes I J (borders_before J (heights bytes J) (widths bytes) t + b) ≡ a
-  says = said_code_lem w t at.tile b e.border ∙ sym s.code
+  says = said_code_lem w t at.tile b border ∙ sym s.code
 
   outside : cells_in J (heights bytes J) (widths bytes) t
       ≤ step_from (height_of J (heights bytes J) t) (width_of J (widths bytes) t) (step_of a) (r * width_of J (widths bytes) t + c)
   outside =
       let h = height_is w t at.tile in
       let v = width_is w t at.tile in
-      rw (stands, s.code, ← h, ← v) (exit_outside w t at.tile b e)
+      rw (stands, s.code, ← h, ← v) (exit_outside w t at.tile b border itself)
 
   lb : b < borders_in J (heights bytes J) (widths bytes) t
-  lb = omega (arith, e.border, borders_are w t at.tile)
+  lb = omega (arith, border, borders_are w t at.tile)
 
   lr : r < height_of J (heights bytes J) t
   lr = omega (arith, s.row_in, s.height)

@@ -17,9 +17,8 @@ use Rattle.mosaic.proofs.Borders.{of_below}
 use Rattle.mosaic.proofs.Pieces.{row_in, col_in}
 use Rattle.mosaic.proofs.Steps.{down, right}
 use Rattle.mosaic_read.specs.BorderRecord.{record_code}
-use Rattle.mosaic_read.specs.Records.{heights, widths}
+use Rattle.mosaic_read.specs.Records.{borders_of, heights, widths, way_in}
 use Rattle.mosaic_read.specs.Said.{said_code}
-use Rattle.mosaic_step.specs.Exit.{Exit}
 use Rattle.mosaic_step.specs.Line.{piece_after, number_after}
 use Rattle.mosaic_step.specs.Mosaic.{all_in}
 use Rattle.mosaic_step.specs.Tiles.{IsExit, sought_by}
@@ -40,8 +39,11 @@ module _ (m : MosaicTile) {b : ℕ} (e : IsExit m b) {spot : Spot} (s : SpotIs m
   abbrev bytes : List ℕ
   bytes = m.tiles.mosaic.records.now
 
-  exit : Exit bytes m.number b
-  exit = record { border = omega (arith, e.border, size m); itself = sym (way_is m b) ∙ e.itself }
+  border : b < borders_of bytes m.number
+  border = omega (arith, e.border, size m)
+
+  itself : way_in bytes m.number b ≡ b
+  itself = sym (way_is m b) ∙ e.itself
 
   stood : Standing J bytes m.number b m.border.tile.rows m.border.tile.cols spot.row spot.col a
   stood = record { height = tall m; width = wide m; place_is = s.place_is; row_in = s.row_in; col_in = s.col_in; code = code ∙ code_is m b }
@@ -50,28 +52,28 @@ module _ (m : MosaicTile) {b : ℕ} (e : IsExit m b) {spot : Spot} (s : SpotIs m
   named = ap (λ (x : ℕ). onto I J (heights bytes J) (widths bytes) (said_code bytes I J) (x + b)) (sym m.before)
 
   pub arrow : is_arrow a ≡ true
-  arrow = exit_code m.tiles.mosaic.well_formed m.stands exit stood
+  arrow = exit_code m.tiles.mosaic.well_formed m.stands border itself stood
 
   module _ {D : ℕ} (d : D ≡ spot.row + down a) where
     -- the row steps off the mosaic
-    pub rows_end : piece_after I m.place.row m.border.tile.rows D ≡ I → sought_by m b ≡ all_in m.tiles.mosaic
-    rows_end p = sym named ∙ off_rows m.tiles.mosaic.well_formed m.stands exit stood d (sym p) (omega arith)
+    pub rows_end : piece_after I m.spot.row m.border.tile.rows D ≡ I → sought_by m b ≡ all_in m.tiles.mosaic
+    rows_end p = sym named ∙ off_rows m.tiles.mosaic.well_formed m.stands border itself stood d (sym p) (omega arith)
 
-    module _ {k : ℕ} (p : k ≡ piece_after I m.place.row m.border.tile.rows D) {R : ℕ} (v : R ≡ spot.col + right a) where
+    module _ {k : ℕ} (p : k ≡ piece_after I m.spot.row m.border.tile.rows D) {R : ℕ} (v : R ≡ spot.col + right a) where
       -- the column does
-      pub cols_end : piece_after J m.place.col m.border.tile.cols R ≡ J → sought_by m b ≡ all_in m.tiles.mosaic
-      cols_end q = sym named ∙ off_cols m.tiles.mosaic.well_formed m.stands exit stood d p v (sym q) (omega arith)
+      pub cols_end : piece_after J m.spot.col m.border.tile.cols R ≡ J → sought_by m b ≡ all_in m.tiles.mosaic
+      cols_end q = sym named ∙ off_cols m.tiles.mosaic.well_formed m.stands border itself stood d p v (sym q) (omega arith)
 
       -- neither does: the step is onto row r and column c of the tile n
-      module _ (lk : k < I) {q : ℕ} (o : q ≡ piece_after J m.place.col m.border.tile.cols R) (lq : q < J) (n : MosaicTile) (same : n.tiles ≡ m.tiles) (place : n.place ≡ record { row = k; col = q }) where
+      module _ (lk : k < I) {q : ℕ} (o : q ≡ piece_after J m.spot.col m.border.tile.cols R) (lq : q < J) (n : MosaicTile) (same : n.tiles ≡ m.tiles) (place : n.spot ≡ record { row = k; col = q }) where
         -- what stays in its tile row, or in its tile column, has not moved back
-        pub row_stays : m.place.row ≡ k → 1 ≤ D
-        row_stays = stays_some I m.place.row m.border.tile.rows D (omega (arith, m.stands.row, row_in I J m.number m.stands.tile)) p
+        pub row_stays : m.spot.row ≡ k → 1 ≤ D
+        row_stays = stays_some I m.spot.row m.border.tile.rows D (omega (arith, m.stands.row, row_in I J m.number m.stands.tile)) p
 
-        pub col_stays : m.place.col ≡ q → 1 ≤ R
-        col_stays = stays_some J m.place.col m.border.tile.cols R (omega (arith, m.stands.col, col_in I J m.number m.stands.tile)) o
+        pub col_stays : m.spot.col ≡ q → 1 ≤ R
+        col_stays = stays_some J m.spot.col m.border.tile.cols R (omega (arith, m.stands.col, col_in I J m.number m.stands.tile)) o
 
-        module _ {r c : ℕ} (er : r ≡ number_after m.place.row D k n.border.tile.rows) (ec : c ≡ number_after m.place.col R q n.border.tile.cols) where
+        module _ {r c : ℕ} (er : r ≡ number_after m.spot.row D k n.border.tile.rows) (ec : c ≡ number_after m.spot.col R q n.border.tile.cols) where
           -- its sides, in the words of this tile's mosaic
           high : n.border.tile.rows ≡ height_of J (heights bytes J) n.number
           high = tall n ∙ ap (λ (x : Tiles). height_of x.mosaic.tile_cols (heights x.mosaic.records.now x.mosaic.tile_cols) n.number) same
@@ -86,7 +88,7 @@ module _ (m : MosaicTile) {b : ℕ} (e : IsExit m b) {spot : Spot} (s : SpotIs m
           number = number_is n ∙ ap₂ (λ (x : Tiles) (y : Spot). y.row * x.mosaic.tile_cols + y.col) same place
 
           found : Found I J (heights bytes J) (widths bytes) (sought_in I J bytes m.number b) n.number r c
-          found = onto_tile m.tiles.mosaic.well_formed m.stands exit stood d p v o lk lq n.number number high broad er ec
+          found = onto_tile m.tiles.mosaic.well_formed m.stands border itself stood d p v o lk lq n.number number high broad er ec
 
           pub cell : Cell n.border.tile.rows n.border.tile.cols r c
           cell = record {

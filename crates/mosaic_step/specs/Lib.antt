@@ -1,5 +1,5 @@
 pub mod Table
 pub mod Line
-pub mod Exit
+pub mod Stands
 pub mod Mosaic
 pub mod Tiles

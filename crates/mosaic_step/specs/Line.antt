@@ -1,5 +1,6 @@
 -- A move by one along a line in pieces, as tile rows and tile columns are: from a number of piece i, which is `long` numbers long, to the number that is
 -- one less than x, counted from the start of piece i. So x is 0 where it moves back over the start, and more than `long` where it moves on over the end.
+-- Nothing here is cited by a public promise.
 -- Assumes nothing.
 use Rattle.std.specs.Prelude.{cond, ℕ, ◌+◌, ◌-◌, eqb, ltb}
 

@@ -1,4 +1,4 @@
--- A mosaic as its records tell it: its tiles, its border cells, and its table.
+-- A mosaic, as the code holds it: its border cells, and its table. Nothing here is cited by a public promise.
 -- Assumes nothing.
 use Rattle.std.specs.Prelude.{List, ℕ}
 use Rattle.mosaic_read.specs.Said.{borders}

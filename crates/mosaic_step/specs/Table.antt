@@ -1,4 +1,5 @@
--- A table of the records of a mosaic, two numbers to a tile: the byte at which its record begins, and the number of its first border cell.
+-- A table of the records of a mosaic, two numbers to a tile: the byte at which its record begins, and the number of its first border cell. Nothing here is cited
+-- by a public promise.
 -- Assumes nothing.
 use Rattle.std.specs.Prelude.{List, ◌≡◌, ℕ, ◌+◌, ◌*◌, ◌<◌, length}
 use Rattle.sheet.specs.Sheet.{count_at}

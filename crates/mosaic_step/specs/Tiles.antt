@@ -1,4 +1,4 @@
--- A tile of a mosaic, as it is handed on: its exits, and what they step onto.
+-- A tile of a mosaic, as the code holds it: its exits, and what they step onto. Nothing here is cited by a public promise.
 -- Assumes nothing.
 use Rattle.std.specs.Prelude.{◌≡◌, ℕ, ◌+◌, ◌<◌}
 use Rattle.mosaic.specs.Join.{onto}

@@ -18,14 +18,14 @@ impl MosaicTile<'_> {
         let mosaic = self.tiles.mosaic;
         let tile = self.border.tile;
         let past = after(border_spot(tile, b), self.border.code(b));
-        let row = piece_after(mosaic.tile_rows, self.place.row, tile.rows, past.row)?;
-        let col = piece_after(mosaic.tile_cols, self.place.col, tile.cols, past.col)?;
+        let row = piece_after(mosaic.tile_rows, self.spot.row, tile.rows, past.row)?;
+        let col = piece_after(mosaic.tile_cols, self.spot.col, tile.cols, past.col)?;
         let next = self.tiles.tile_at(Spot { row, col });
         let there = next.border.tile;
-        let spot = Spot {
-            row: number_after(self.place.row, past.row, row, there.rows),
-            col: number_after(self.place.col, past.col, col, there.cols),
+        let landing = Spot {
+            row: number_after(self.spot.row, past.row, row, there.rows),
+            col: number_after(self.spot.col, past.col, col, there.cols),
         };
-        Some(next.first + border_number(there, spot))
+        Some(next.first + border_number(there, landing))
     }
 }

@@ -3,7 +3,7 @@ ghost use Rattle.std.specs.Prelude.{◌≡◌, ◌*◌, ◌<◌};
 ghost use Rattle.mosaic.specs.Layout.{borders_before};
 ghost use Rattle.mosaic_read.specs.Records.{start_of, heights, widths};
 ghost use Rattle.mosaic_read.specs.BorderRecord.{IsAt};
-ghost use Rattle.mosaic_step.specs.Exit.{TileIs};
+ghost use Rattle.mosaic_step.specs.Stands.{TileIs};
 ghost use Rattle.mosaic_step.specs.Mosaic.{TableOf};
 
 use crate::records::Mosaic;
@@ -18,15 +18,15 @@ pub struct Tiles<'a> {
     pub ghost filled: { TableOf mosaic table.now },
 }
 
-// A tile of a mosaic: its number, its tile row and tile column, its record, and the number in the mosaic of its first border cell.
+// A tile of a mosaic: its number, its spot (its tile row and tile column), its record, and the number in the mosaic of its first border cell.
 #[derive(Clone, Copy)]
 pub struct MosaicTile<'a> {
     pub tiles: Tiles<'a>,
     pub number: usize,
-    pub place: Spot,
+    pub spot: Spot,
     pub border: BorderRecord<'a>,
     pub first: usize,
-    pub ghost stands: { TileIs tiles.mosaic.tile_rows tiles.mosaic.tile_cols number place.row place.col },
+    pub ghost stands: { TileIs tiles.mosaic.tile_rows tiles.mosaic.tile_cols number spot.row spot.col },
     pub ghost told: { IsAt tiles.mosaic.records.now (start_of tiles.mosaic.records.now number) border },
     pub ghost before: { first ≡ borders_before tiles.mosaic.tile_cols (heights tiles.mosaic.records.now tiles.mosaic.tile_cols) (widths tiles.mosaic.records.now) number },
 }
@@ -48,16 +48,16 @@ impl<'a> Tiles<'a> {
     }
 
     // The tile in a tile row and a tile column. Nothing is divided.
-    pub fn tile_at(&self, place: Spot) -> MosaicTile<'a>
-        requires { (place.row < self.now.mosaic.tile_rows) × (place.col < self.now.mosaic.tile_cols) }
+    pub fn tile_at(&self, spot: Spot) -> MosaicTile<'a>
+        requires { (spot.row < self.now.mosaic.tile_rows) × (spot.col < self.now.mosaic.tile_cols) }
         ensures tiles_are { result.tiles ≡ self.now }
-        ensures place_is { result.place ≡ place }
+        ensures spot_is { result.spot ≡ spot }
     {
-        let number = place.row * self.mosaic.tile_cols + place.col;
+        let number = spot.row * self.mosaic.tile_cols + spot.col;
         MosaicTile {
             tiles: *self,
             number,
-            place,
+            spot,
             border: BorderRecord::at(self.mosaic.records, self.table[2 * number] as usize),
             first: self.first(number),
         }

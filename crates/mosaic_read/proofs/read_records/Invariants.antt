@@ -2,5 +2,5 @@
 use mathlib.Core.Path.{◌≡◌}
 use Rattle.mosaic_read.proofs.read_records.Given as goal
 
-abbrev pub invariant-loop-t : goal.invariant-loop-t
-invariant-loop-t l = record { records_are : l.reading.records.now ≡ l.records; tile_cols_are : l.reading.tile_cols ≡ l.tile_cols; t_is : l.reading.t ≡ l.t }
+abbrev pub invariant-loop : goal.invariant-loop
+invariant-loop l = record { records_are : l.reading.records.now ≡ l.records; tile_cols_are : l.reading.tile_cols ≡ l.tile_cols; t_is : l.reading.t ≡ l.counter }

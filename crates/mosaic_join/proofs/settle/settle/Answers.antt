@@ -18,22 +18,22 @@ first-requires c =
     let m = c.args.mosaic.now in
     let n = c.requires.net_written in
     let l = (loop_is m.tile_rows m.tile_cols m.records.now m.well_formed c.args.feeds.now c.args.totals.now n.feeds_are n.own_are c.in-Err.ensures.answers).here.0 in
-    tile_there m.tile_rows m.tile_cols m.records.now m.well_formed _ l c.tile_of-tile.ensures
+    tile_there m.tile_rows m.tile_cols m.records.now m.well_formed _ l c.tile_holding-tile.ensures
 
 pub overflow_sub-result : goal.overflow_sub-result
 overflow_sub-result c =
     let m = c.args.mosaic.now in
     let n = c.requires.net_written in
     let l = (loop_is m.tile_rows m.tile_cols m.records.now m.well_formed c.args.feeds.now c.args.totals.now n.feeds_are n.own_are c.in-Err.ensures.answers).here.0 in
-    first_le m.tile_rows m.tile_cols m.records.now m.well_formed _ l c.tile_of-tile.ensures c.first.ensures
+    first_le m.tile_rows m.tile_cols m.records.now m.well_formed _ l c.tile_holding-tile.ensures c.first.ensures
 
 pub returns-in-Err-clause-exits_joined : goal.returns-in-Err-clause-exits_joined
 returns-in-Err-clause-exits_joined c =
     let m = c.args.mosaic.now in
     let n = c.requires.net_written in
     let l = (loop_is m.tile_rows m.tile_cols m.records.now m.well_formed c.args.feeds.now c.args.totals.now n.feeds_are n.own_are c.in-Err.ensures.answers).here.0 in
-    answers_loop m.tile_rows m.tile_cols m.records.now m.well_formed c.args.feeds.now c.args.totals.now n.feeds_are n.own_are c.in-Err.ensures.answers c.tile_of-tile.ensures
-    (number_left m.tile_rows m.tile_cols m.records.now m.well_formed _ l c.tile_of-tile.ensures c.first.ensures) c.requires.incoming_clear refl
+    answers_loop m.tile_rows m.tile_cols m.records.now m.well_formed c.args.feeds.now c.args.totals.now n.feeds_are n.own_are c.in-Err.ensures.answers c.tile_holding-tile.ensures
+    (number_left m.tile_rows m.tile_cols m.records.now m.well_formed _ l c.tile_holding-tile.ensures c.first.ensures) c.requires.incoming_clear refl
 
 pub gather-requires-clause-fit : goal.gather-requires-clause-fit
 gather-requires-clause-fit c =

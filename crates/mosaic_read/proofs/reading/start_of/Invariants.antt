@@ -3,5 +3,5 @@ use mathlib.Core.Path.{◌≡◌}
 use Rattle.mosaic_read.specs.Records.{start_of}
 use Rattle.mosaic_read.proofs.reading.start_of.Given as goal
 
-abbrev pub invariant-loop-q : goal.invariant-loop-q
-invariant-loop-q l = l.start ≡ start_of l.records l.q
+abbrev pub invariant-loop : goal.invariant-loop
+invariant-loop l = l.start ≡ start_of l.records l.counter

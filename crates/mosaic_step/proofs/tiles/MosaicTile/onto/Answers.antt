@@ -23,25 +23,25 @@ returns-in_err-col c =
 
 pub number_after-requires : goal.number_after-requires
 number_after-requires c =
-    (c.tile_at-next.result.border.tile.bounds.some_row, row_stays c.args.self.now c.requires c.border_spot.ensures c.code.ensures c.after-past.ensures.row c.in_ok-row.ensures.0 c.after-past.ensures.col c.in_ok-row.ensures.1 c.in_ok-col.ensures.0 c.in_ok-col.ensures.1 c.tile_at-next.result c.tile_at-next.ensures.tiles_are c.tile_at-next.ensures.place_is)
+    (c.tile_at-next.result.border.tile.bounds.some_row, row_stays c.args.self.now c.requires c.border_spot.ensures c.code.ensures c.after-past.ensures.row c.in_ok-row.ensures.0 c.after-past.ensures.col c.in_ok-row.ensures.1 c.in_ok-col.ensures.0 c.in_ok-col.ensures.1 c.tile_at-next.result c.tile_at-next.ensures.tiles_are c.tile_at-next.ensures.spot_is)
 
 pub number_after-requires-2 : goal.number_after-requires-2
 number_after-requires-2 c =
-    (c.tile_at-next.result.border.tile.bounds.some_col, col_stays c.args.self.now c.requires c.border_spot.ensures c.code.ensures c.after-past.ensures.row c.in_ok-row.ensures.0 c.after-past.ensures.col c.in_ok-row.ensures.1 c.in_ok-col.ensures.0 c.in_ok-col.ensures.1 c.tile_at-next.result c.tile_at-next.ensures.tiles_are c.tile_at-next.ensures.place_is)
+    (c.tile_at-next.result.border.tile.bounds.some_col, col_stays c.args.self.now c.requires c.border_spot.ensures c.code.ensures c.after-past.ensures.row c.in_ok-row.ensures.0 c.after-past.ensures.col c.in_ok-row.ensures.1 c.in_ok-col.ensures.0 c.in_ok-col.ensures.1 c.tile_at-next.result c.tile_at-next.ensures.tiles_are c.tile_at-next.ensures.spot_is)
 
 pub border_number-requires : goal.border_number-requires
 border_number-requires c =
     record {
-      cell = cell c.args.self.now c.requires c.border_spot.ensures c.code.ensures c.after-past.ensures.row c.in_ok-row.ensures.0 c.after-past.ensures.col c.in_ok-row.ensures.1 c.in_ok-col.ensures.0 c.in_ok-col.ensures.1 c.tile_at-next.result c.tile_at-next.ensures.tiles_are c.tile_at-next.ensures.place_is c.number_after.ensures c.number_after-2.ensures;
-      on_edge = on_edge c.args.self.now c.requires c.border_spot.ensures c.code.ensures c.after-past.ensures.row c.in_ok-row.ensures.0 c.after-past.ensures.col c.in_ok-row.ensures.1 c.in_ok-col.ensures.0 c.in_ok-col.ensures.1 c.tile_at-next.result c.tile_at-next.ensures.tiles_are c.tile_at-next.ensures.place_is c.number_after.ensures c.number_after-2.ensures;
+      cell = cell c.args.self.now c.requires c.border_spot.ensures c.code.ensures c.after-past.ensures.row c.in_ok-row.ensures.0 c.after-past.ensures.col c.in_ok-row.ensures.1 c.in_ok-col.ensures.0 c.in_ok-col.ensures.1 c.tile_at-next.result c.tile_at-next.ensures.tiles_are c.tile_at-next.ensures.spot_is c.number_after.ensures c.number_after-2.ensures;
+      on_edge = on_edge c.args.self.now c.requires c.border_spot.ensures c.code.ensures c.after-past.ensures.row c.in_ok-row.ensures.0 c.after-past.ensures.col c.in_ok-row.ensures.1 c.in_ok-col.ensures.0 c.in_ok-col.ensures.1 c.tile_at-next.result c.tile_at-next.ensures.tiles_are c.tile_at-next.ensures.spot_is c.number_after.ensures c.number_after-2.ensures;
     }
 
 pub overflow_add-result : goal.overflow_add-result
 overflow_add-result c =
-    omega (arith, below c.args.self.now c.requires c.border_spot.ensures c.code.ensures c.after-past.ensures.row c.in_ok-row.ensures.0 c.after-past.ensures.col c.in_ok-row.ensures.1 c.in_ok-col.ensures.0 c.in_ok-col.ensures.1 c.tile_at-next.result c.tile_at-next.ensures.tiles_are c.tile_at-next.ensures.place_is c.number_after.ensures c.number_after-2.ensures c.border_number.ensures, before_most c.args.self.now.tiles.mosaic.well_formed (c.args.self.now.tiles.mosaic.tile_rows * c.args.self.now.tiles.mosaic.tile_cols) (omega arith), c.args.self.now.tiles.mosaic.well_formed.shape.tiles_most)
+    omega (arith, below c.args.self.now c.requires c.border_spot.ensures c.code.ensures c.after-past.ensures.row c.in_ok-row.ensures.0 c.after-past.ensures.col c.in_ok-row.ensures.1 c.in_ok-col.ensures.0 c.in_ok-col.ensures.1 c.tile_at-next.result c.tile_at-next.ensures.tiles_are c.tile_at-next.ensures.spot_is c.number_after.ensures c.number_after-2.ensures c.border_number.ensures, before_most c.args.self.now.tiles.mosaic.well_formed (c.args.self.now.tiles.mosaic.tile_rows * c.args.self.now.tiles.mosaic.tile_cols) (omega arith), c.args.self.now.tiles.mosaic.well_formed.shape.tiles_most)
 
 pub returns : goal.returns
 returns c = (
-  sought c.args.self.now c.requires c.border_spot.ensures c.code.ensures c.after-past.ensures.row c.in_ok-row.ensures.0 c.after-past.ensures.col c.in_ok-row.ensures.1 c.in_ok-col.ensures.0 c.in_ok-col.ensures.1 c.tile_at-next.result c.tile_at-next.ensures.tiles_are c.tile_at-next.ensures.place_is c.number_after.ensures c.number_after-2.ensures c.border_number.ensures,
-  below c.args.self.now c.requires c.border_spot.ensures c.code.ensures c.after-past.ensures.row c.in_ok-row.ensures.0 c.after-past.ensures.col c.in_ok-row.ensures.1 c.in_ok-col.ensures.0 c.in_ok-col.ensures.1 c.tile_at-next.result c.tile_at-next.ensures.tiles_are c.tile_at-next.ensures.place_is c.number_after.ensures c.number_after-2.ensures c.border_number.ensures,
+  sought c.args.self.now c.requires c.border_spot.ensures c.code.ensures c.after-past.ensures.row c.in_ok-row.ensures.0 c.after-past.ensures.col c.in_ok-row.ensures.1 c.in_ok-col.ensures.0 c.in_ok-col.ensures.1 c.tile_at-next.result c.tile_at-next.ensures.tiles_are c.tile_at-next.ensures.spot_is c.number_after.ensures c.number_after-2.ensures c.border_number.ensures,
+  below c.args.self.now c.requires c.border_spot.ensures c.code.ensures c.after-past.ensures.row c.in_ok-row.ensures.0 c.after-past.ensures.col c.in_ok-row.ensures.1 c.in_ok-col.ensures.0 c.in_ok-col.ensures.1 c.tile_at-next.result c.tile_at-next.ensures.tiles_are c.tile_at-next.ensures.spot_is c.number_after.ensures c.number_after-2.ensures c.border_number.ensures,
 )

@@ -1,9 +1,9 @@
--- `mosaic_join::settle::tile_of` meets its contract: tile after tile, until the next begins past the border cell.
+-- `mosaic_join::settle::tile_holding` meets its contract: tile after tile, until the next begins past the border cell.
 -- Assumes nothing.
 use native.Mathlib.Omega.{arith}
 use Rattle.mosaic_step.proofs.Known.{before_none}
 use Rattle.mosaic_join.proofs.TileFound.{some_tile, tile_before, tile_last}
-use Rattle.mosaic_join.proofs.settle.tile_of.Goals as goal
+use Rattle.mosaic_join.proofs.settle.tile_holding.Goals as goal
 
 pub loop-t-init : goal.loop-t-init
 loop-t-init c = omega (arith, before_none c.args.tiles.now.mosaic.well_formed)
