@@ -12,6 +12,7 @@ use text::{MOST, end_of};
 use writer::Writer;
 
 // Writes a number.
+#[tactic(auto, using(text::proofs::Decimal::step_long, text::proofs::Decimal::decimal_some, writer::proofs::Wrote::writes_long))]
 fn write_number(to: &mut Writer<'_>, n: usize)
     requires { Room (length (decimal n)) to.old }
     ensures { Writes (decimal n) to.old to.new }
