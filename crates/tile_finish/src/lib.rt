@@ -2,7 +2,7 @@
 // look-around method of counting adds it to each cell's own 1.
 #![tactic(auto)]
 
-pub mod incoming;
+mod incoming;
 
 ghost use Rattle.std.specs.Prelude.{◌≡◌, length};
 ghost use Rattle.sheet.specs.Grid.{cells_in};

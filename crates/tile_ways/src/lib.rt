@@ -2,8 +2,8 @@
 #![tactic(auto)]
 
 pub mod free;
-pub mod walk;
-pub mod way;
+mod walk;
+mod way;
 
 ghost use Rattle.std.specs.Prelude.{◌≡◌, ◌+◌, ◌*◌, ◌<◌};
 ghost use Rattle.tile_bytes.specs.Bytes.{field, each, way_bytes};
