@@ -1,7 +1,7 @@
 // Writing the answer of the count program: lines of words and numbers, and a grid of counts.
 #![tactic(auto)]
 
-ghost use Rattle.std.specs.Prelude.{◌≡◌, [], ◌∷◌, ◌++◌, ◌+◌, ◌*◌, ◌≤◌, length};
+ghost use Rattle.std.specs.Prelude.{◌≡◌, [], ◌∷◌, ◌++◌, ◌+◌, ◌*◌, length};
 ghost use Rattle.text.specs.Text.{decimal, lines};
 ghost use Rattle.writer.specs.Parts.{Room, Writes};
 ghost use Rattle.show.specs.Parts.{items};

@@ -13,7 +13,7 @@ use sheet::grid::Grid;
 use sheet::shape::Tile;
 use sheet::totals::{clear, first_bad_code};
 use tile::border::border_cells;
-use tile::shape::tile_of;
+use tile::shape::as_tile;
 use tile_bytes::position::Position;
 use tile_bytes::{write_counts, write_sides};
 use tile_ways::free::FreeGrid;
@@ -102,7 +102,7 @@ fn write_fields(
     ensures { bytes.new ≡ record_bytes free.now.grid.sheet.rows free.now.grid.sheet.cols position.row position.col free.now.grid.codes.now counts.now }
 {
     clear(known);
-    let tile = tile_of(&free.grid);
+    let tile = as_tile(&free.grid);
     let mut to = Writer::new(bytes);
     write_sides(&mut to, tile, position);
     write_counts(&mut to, tile, counts);
