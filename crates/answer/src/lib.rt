@@ -8,6 +8,7 @@ ghost use Rattle.writer.specs.Parts.{Room};
 
 use count::{CountError, count};
 use sheet::shape::Shape;
+use sheet::totals::clear;
 use show::{write_done, write_refusal};
 use text::{MOST, TextError, parse};
 use writer::Writer;
@@ -49,6 +50,6 @@ pub fn answer(text: &[u8], grid: &mut [u8], counts: &mut [u32], out: &mut [u8]) 
     let mut to = Writer::new(out);
     write_answer(text, grid, counts, &mut to);
     grid.fill(0);
-    counts.fill(0);
+    clear(counts);
     to.at
 }

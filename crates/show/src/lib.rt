@@ -1,7 +1,7 @@
 // Writing the answer of the count program: lines of words and numbers, and a grid of counts.
 #![tactic(auto)]
 
-ghost use Rattle.std.specs.Prelude.{◌≡◌, [], ◌∷◌, ◌++◌, ◌+◌, ◌*◌, ◌≤◌, length};
+ghost use Rattle.std.specs.Prelude.{◌≡◌, [], ◌∷◌, ◌++◌, ◌+◌, ◌*◌, length};
 ghost use Rattle.text.specs.Text.{decimal, lines};
 ghost use Rattle.writer.specs.Parts.{Room, Writes};
 ghost use Rattle.show.specs.Parts.{items};
@@ -12,6 +12,7 @@ use text::{MOST, end_of};
 use writer::Writer;
 
 // Writes a number.
+#[tactic(auto, using(text::proofs::Decimal::step_long, text::proofs::Decimal::decimal_some, writer::proofs::Wrote::writes_long))]
 fn write_number(to: &mut Writer<'_>, n: usize)
     requires { Room (length (decimal n)) to.old }
     ensures { Writes (decimal n) to.old to.new }

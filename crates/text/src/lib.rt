@@ -117,9 +117,7 @@ pub fn parse(text: &[u8], grid: &mut [u8]) -> Result<Shape<MOST>, TextError>
 {
     let first = read_first(text)?;
     let (rows, cols) = first.value;
-    let Some(shape) = Shape::new(rows, cols) else {
-        return Err(TextError::Shape);
-    };
+    let shape = Shape::new(rows, cols).ok_or(TextError::Shape)?;
     if let Err(stop) = read_body(&text[first.next..], shape, grid) {
         return Err(TextError::Malformed(first.next + stop.at));
     }

@@ -6,7 +6,7 @@ use sheet::grid::Grid;
 use sheet::shape::{Shape, Tile};
 
 // The shape of a grid that is no greater than a tile.
-pub fn tile_of(grid: &Grid<'_>) -> Tile
+pub fn as_tile(grid: &Grid<'_>) -> Tile
     requires { TileShape grid.now.sheet.rows grid.now.sheet.cols }
     ensures rows { result.rows ≡ grid.now.sheet.rows }
     ensures cols { result.cols ≡ grid.now.sheet.cols }

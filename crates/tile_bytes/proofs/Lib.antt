@@ -1,3 +1,3 @@
-pub mod Puts
+pub mod Fields
 pub mod Each
 pub mod Read

@@ -1,5 +1,5 @@
 // What comes in at the border cells of a tile from other tiles.
-ghost use Rattle.std.specs.Prelude.{◌≡◌, ◌<◌, length, replicate};
+ghost use Rattle.std.specs.Prelude.{◌≡◌, length, replicate};
 ghost use Rattle.promise.specs.First.{Finds};
 ghost use Rattle.sheet.specs.Grid.{cells_in};
 ghost use Rattle.sheet.specs.Shape.{TileShape};
@@ -9,7 +9,7 @@ ghost use Rattle.tile_finish.specs.Method.{may_come_in};
 use sheet::compass::is_arrow;
 use sheet::grid::Grid;
 use tile::border::border_place;
-use tile::shape::tile_of;
+use tile::shape::as_tile;
 
 // The most that comes in at one cell: the cells of the greatest mosaic.
 const MOST: u32 = 4194304;
@@ -39,7 +39,7 @@ impl<'g, 'n> Incoming<'g, 'n> {
     pub fn first_bad(&self) -> Option<usize>
         ensures { Finds (border_cells self.now.grid.sheet.rows self.now.grid.sheet.cols) (IncomingOk self.now.grid.sheet.rows self.now.grid.sheet.cols self.now.grid.codes.now self.now.numbers.now) result }
     {
-        let tile = tile_of(&self.grid);
+        let tile = as_tile(&self.grid);
         for (b, n) in self.numbers.iter().enumerate() {
             if !may_come_in(self.grid.codes[border_place(tile, b)], *n) {
                 return Some(b);
@@ -53,7 +53,7 @@ impl<'g, 'n> Incoming<'g, 'n> {
         requires { work.old ≡ replicate (cells_in self.now.grid) 0 }
         ensures { Spread self.now.grid.sheet.rows self.now.grid.sheet.cols self.now.numbers.now work.new (border_cells self.now.grid.sheet.rows self.now.grid.sheet.cols) }
     {
-        let tile = tile_of(&self.grid);
+        let tile = as_tile(&self.grid);
         for (b, n) in self.numbers.iter().enumerate() {
             work[border_place(tile, b)] = *n;
         }

@@ -2,7 +2,7 @@
 // look-around method of counting adds it to each cell's own 1.
 #![tactic(auto)]
 
-pub mod incoming;
+mod incoming;
 
 ghost use Rattle.std.specs.Prelude.{◌≡◌, length};
 ghost use Rattle.sheet.specs.Grid.{cells_in};
@@ -14,12 +14,12 @@ use loops::{first_left, loop_length};
 use scan::scan;
 use sheet::grid::Grid;
 use sheet::shape::Tile;
-use sheet::totals::first_bad_code;
+use sheet::totals::{clear, first_bad_code};
 use tile::border::border_cells;
 
-// What the paper refuses to finish: a shape or lengths, the place of a bad code, a loop by its first place and its length, or the number of a
+// Why a tile is not finished: a shape or lengths, the place of a bad code, a loop by its first place and its length, or the number of a
 // border cell at which more comes in than can be taken.
-#[derive(Clone, Copy)]
+#[derive(Clone, Copy, PartialEq, Eq, Debug)]
 pub enum FinishError {
     Shape,
     Length,
@@ -41,15 +41,11 @@ pub fn finish(
 {
     let tile = Tile::new(rows, cols).ok_or(FinishError::Shape)?;
     let sheet = tile.sheet();
+    let grid = Grid::new(sheet, grid).ok_or(FinishError::Length)?;
     let n = sheet.cells();
-    if grid.len() != n
-        || incoming.len() != border_cells(tile)
-        || counts.len() != n
-        || work.len() != n
-    {
+    if incoming.len() != border_cells(tile) || counts.len() != n || work.len() != n {
         return Err(FinishError::Length);
     }
-    let grid = Grid { sheet, codes: grid };
     finish_cells(
         &Incoming {
             grid,
@@ -91,16 +87,16 @@ fn finish_taken(
     requires taken { AllMayComeIn incoming.now.grid.sheet.rows incoming.now.grid.sheet.cols incoming.now.grid.codes.now incoming.now.numbers.now }
     ensures { Answered incoming.now.grid.sheet.rows incoming.now.grid.sheet.cols incoming.now.grid.codes.now incoming.now.numbers.now (ends (finish_reply result) counts.new work.new) }
 {
-    work.fill(0);
+    clear(work);
     incoming.spread(work);
-    counts.fill(0);
+    clear(counts);
     scan(&incoming.grid, work, counts);
     let left = first_left(incoming.grid.codes, counts);
-    work.fill(0);
+    clear(work);
     let Some(place) = left else {
         return Ok(());
     };
     let length = loop_length(&incoming.grid, place);
-    counts.fill(0);
+    clear(counts);
     Err(FinishError::Loop { place, length })
 }

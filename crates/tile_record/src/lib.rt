@@ -11,18 +11,18 @@ use loops::{first_left, loop_length};
 use scan::scan;
 use sheet::grid::Grid;
 use sheet::shape::Tile;
-use sheet::totals::first_bad_code;
+use sheet::totals::{clear, first_bad_code};
 use tile::border::border_cells;
-use tile::shape::tile_of;
+use tile::shape::as_tile;
 use tile_bytes::position::Position;
 use tile_bytes::{write_counts, write_sides};
 use tile_ways::free::FreeGrid;
 use tile_ways::write_ways;
 use writer::Writer;
 
-// What the paper refuses to write a record of: a shape, a position or lengths, the place of a bad code, or a loop by its first place and its
+// Why no record is written: a shape, a position or lengths, the place of a bad code, or a loop by its first place and its
 // length.
-#[derive(Clone, Copy)]
+#[derive(Clone, Copy, PartialEq, Eq, Debug)]
 pub enum RecordError {
     Shape,
     Layout,
@@ -47,15 +47,12 @@ pub fn write_record(
     let tile = Tile::new(rows, cols).ok_or(RecordError::Shape)?;
     let position = Position::new(tile_row, tile_col).ok_or(RecordError::Layout)?;
     let sheet = tile.sheet();
+    let grid = Grid::new(sheet, grid).ok_or(RecordError::Length)?;
     let n = sheet.cells();
-    if grid.len() != n
-        || bytes.len() != 17 + 7 * border_cells(tile)
-        || work1.len() != n
-        || work2.len() != n
-    {
+    if bytes.len() != 17 + 7 * border_cells(tile) || work1.len() != n || work2.len() != n {
         return Err(RecordError::Length);
     }
-    record_cells(&Grid { sheet, codes: grid }, position, bytes, work1, work2)
+    record_cells(&grid, position, bytes, work1, work2)
 }
 
 // The same where shape, position and lengths fit. The first land cell that the scan leaves without a count lies on a loop, and where none is
@@ -74,7 +71,7 @@ fn record_cells(
     if let Some(p) = first_bad_code(grid.codes) {
         return Err(RecordError::Code(p));
     }
-    work1.fill(0);
+    clear(work1);
     scan(grid, &[], work1);
     let outcome = match first_left(grid.codes, work1) {
         Some(place) => Err(RecordError::Loop {
@@ -86,8 +83,8 @@ fn record_cells(
             Ok(())
         }
     };
-    work1.fill(0);
-    work2.fill(0);
+    clear(work1);
+    clear(work2);
     outcome
 }
 
@@ -104,8 +101,8 @@ fn write_fields(
     requires known_long { length known.old ≡ cells_in free.now.grid }
     ensures { bytes.new ≡ record_bytes free.now.grid.sheet.rows free.now.grid.sheet.cols position.row position.col free.now.grid.codes.now counts.now }
 {
-    known.fill(0);
-    let tile = tile_of(&free.grid);
+    clear(known);
+    let tile = as_tile(&free.grid);
     let mut to = Writer::new(bytes);
     write_sides(&mut to, tile, position);
     write_counts(&mut to, tile, counts);

@@ -7,7 +7,7 @@ use crate::way::BorderWay;
 use sheet::grid::Grid;
 use sheet::step::Spot;
 use tile::border::border_number;
-use tile::shape::tile_of;
+use tile::shape::as_tile;
 
 // The codes of a tile whose arrows form no loop.
 #[derive(Clone, Copy)]
@@ -31,7 +31,7 @@ impl<'a> FreeGrid<'a> {
         match sheet.beside(at, code) {
             Some(_) => BorderWay::Inside,
             None => BorderWay::Over {
-                number: border_number(tile_of(&self.grid), at) as u16,
+                number: border_number(as_tile(&self.grid), at) as u16,
                 code,
             },
         }

@@ -2,8 +2,8 @@
 #![tactic(auto)]
 
 pub mod free;
-pub mod walk;
-pub mod way;
+mod walk;
+mod way;
 
 ghost use Rattle.std.specs.Prelude.{◌≡◌, ◌+◌, ◌*◌, ◌<◌};
 ghost use Rattle.tile_bytes.specs.Bytes.{field, each, way_bytes};
@@ -13,7 +13,7 @@ ghost use Rattle.writer.specs.Parts.{Room, Writes};
 use crate::free::FreeGrid;
 use crate::walk::Walk;
 use tile::border::{border_cells, border_spot};
-use tile::shape::tile_of;
+use tile::shape::as_tile;
 use tile_bytes::{put_head, put_two};
 use writer::Writer;
 
@@ -24,7 +24,7 @@ fn put_way(to: &mut Writer<'_>, walk: &mut Walk<'_>, b: usize)
     ensures puts { Writes (way_bytes (border_way_in walk.old.free.now.grid b)) to.old to.new }
     ensures stays { walk.new.free ≡ walk.old.free }
 {
-    let spot = border_spot(tile_of(&walk.free.grid), b);
+    let spot = border_spot(as_tile(&walk.free.grid), b);
     let (number, code) = walk.way_of(spot).fields();
     put_two(to, number);
     to.byte(code);
@@ -35,7 +35,7 @@ fn put_ways(to: &mut Writer<'_>, walk: &mut Walk<'_>)
     requires { Room (3 * borders_in walk.old.free.now.grid) to.old }
     ensures { Writes (each (borders_in walk.old.free.now.grid) (λ b. way_bytes (border_way_in walk.old.free.now.grid b))) to.old to.new }
 {
-    for b in 0..border_cells(tile_of(&walk.free.grid)) {
+    for b in 0..border_cells(as_tile(&walk.free.grid)) {
         put_way(to, walk, b);
     }
 }
@@ -46,6 +46,6 @@ pub fn write_ways(to: &mut Writer<'_>, free: &FreeGrid<'_>, known: &mut [u32])
     requires room { Room (3 + 3 * borders_in free.now.grid) to.old }
     ensures { Writes (field 3 (each (borders_in free.now.grid) (λ b. way_bytes (border_way_in free.now.grid b)))) to.old to.new }
 {
-    put_head(to, 3, 3 * border_cells(tile_of(&free.grid)) as u16);
+    put_head(to, 3, 3 * border_cells(as_tile(&free.grid)) as u16);
     put_ways(to, &mut Walk { free, known });
 }

@@ -2,6 +2,8 @@
 ghost use Rattle.std.specs.Prelude.{◌≡◌};
 ghost use Rattle.tile_ways.specs.Told.{told};
 
+use tile::way::{ABSENT, ENDS_INSIDE, NO_WAY};
+
 // Where the water of a border cell leaves the tile: the cell is absent, its water ends inside, or it leaves over the edge at a border cell with
 // this number and this code.
 #[derive(Clone, Copy)]
@@ -18,8 +20,8 @@ impl BorderWay {
         ensures code { result.1 ≡ (told self).code }
     {
         match self {
-            BorderWay::Absent => (65535, 255),
-            BorderWay::Inside => (65535, 0),
+            BorderWay::Absent => (NO_WAY, ABSENT),
+            BorderWay::Inside => (NO_WAY, ENDS_INSIDE),
             BorderWay::Over { number, code } => (number, code),
         }
     }

@@ -1,5 +1,7 @@
 -- `text::parse` meets its contract: the first line, the test of its sides, and the lines of codes each answer a case of `Parses`.
 -- Assumes nothing.
+use mathlib.Core.Path.{ap, ◌∙◌}
+use Rattle.std.specs.Prelude.{Err}
 use Rattle.std.proofs.lemmas.List.{take_rest}
 use Rattle.std.proofs.lemmas.Result.{err_from_is_err_and}
 use Rattle.text.proofs.Proper.{parse_bad, parse_shape, parse_broken}
@@ -11,12 +13,15 @@ returns-in_err-first c =
     let grid = c.args.grid.now in
     rw (p.1, p.2) (parse_bad c.args.text.now grid grid c.in_err-first.field-0.0 c.in_err-first.ensures)
 
-pub returns-in_default : goal.returns-in_default
-returns-in_default c =
+pub returns-in_err-shape : goal.returns-in_err-shape
+returns-in_err-shape c =
+    let p = err_from_is_err_and c.from_residual-in_err-shape.result c.from_residual-in_err-shape.ensures.1 in
+    let none = c.in_err-shape.ensures.ok_part in
     let grid = c.args.grid.now in
-    parse_shape c.args.text.now grid grid _ _ c.in_ok-first.first.next c.in_ok-first.ensures c.in_default.ensures
+    rw (p.1 ∙ ap Err p.2 ∙ rw none at c.in_err-shape.ensures.value) (parse_shape c.args.text.now grid grid _ _ c.in_ok-first.first.next c.in_ok-first.ensures (rw none at c.new.ensures))
 
 pub returns-in-Err : goal.returns-in-Err
 returns-in-Err c =
-    let first = rw (← c.in-Some.ensures.1, ← c.in-Some.ensures.2) at c.in_ok-first.ensures in
-    parse_broken c.args.text.now c.args.grid.now c.read_body.new.grid c.in-Some.shape c.in_ok-first.first.next first c.in-Err.stop (rw take_rest at c.in-Err.ensures)
+    let made = rw c.in_ok-shape.ensures.ok_part at c.new.ensures in
+    let first = rw (← made.1, ← made.2) at c.in_ok-first.ensures in
+    parse_broken c.args.text.now c.args.grid.now c.read_body.new.grid c.in_ok-shape.shape c.in_ok-first.first.next first c.in-Err.stop (rw take_rest at c.in-Err.ensures)

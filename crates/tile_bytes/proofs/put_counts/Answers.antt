@@ -3,7 +3,7 @@
 use native.Mathlib.Omega.{arith}
 use Rattle.tile_bytes.specs.Bytes.{border_count}
 use Rattle.tile_bytes.proofs.Each.{counts_long}
-use Rattle.tile_bytes.proofs.Puts.{puts_start, puts_more}
+use Rattle.tile_bytes.proofs.Fields.{puts_start, puts_more}
 use Rattle.writer.proofs.Wrote.{writes_long}
 use Rattle.tile_bytes.proofs.put_counts.Goals as goal
 

@@ -5,7 +5,7 @@ use Rattle.tile.specs.Border.{border_cells}
 use Rattle.tile.proofs.Cells.{cells_most}
 use Rattle.tile_bytes.specs.Bytes.{each, border_count}
 use Rattle.tile_bytes.proofs.Each.{counts_long}
-use Rattle.tile_bytes.proofs.Puts.{puts_field}
+use Rattle.tile_bytes.proofs.Fields.{puts_field}
 use Rattle.tile_bytes.proofs.write_counts.Goals as goal
 
 pub overflow_cast-border_cells : goal.overflow_cast-border_cells

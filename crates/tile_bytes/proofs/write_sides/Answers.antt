@@ -1,7 +1,7 @@
 -- `tile_bytes::write_sides` meets its contract: a field of four numbers.
 -- Assumes nothing.
 use mathlib.Core.Path.{refl}
-use Rattle.tile_bytes.proofs.Puts.{puts_field}
+use Rattle.tile_bytes.proofs.Fields.{puts_field}
 use Rattle.writer.proofs.Wrote.{writes_then}
 use Rattle.tile_bytes.proofs.write_sides.Goals as goal
 

@@ -22,12 +22,12 @@ loop_length-length-requires c =
 pub returns-in_default : goal.returns-in_default
 returns-in_default c =
     let i = c.args.incoming.now in
-    let z : c.fill-3.new.self ≡ replicate (cells_in i.grid) 0 = search rules in
+    let z : c.clear-3.new.buffer ≡ replicate (cells_in i.grid) 0 = search rules in
     answers_done i.grid.sheet.rows i.grid.sheet.cols i.grid.codes.now i.numbers.now c.spread.new.work _ i.grid.long c.scan.ensures.counting c.requires.taken c.spread.ensures (rw c.in_default.is at c.first_left-left.ensures) z
 
 pub returns : goal.returns
 returns c =
     let i = c.args.incoming.now in
-    let z : c.fill-3.new.self ≡ replicate (cells_in i.grid) 0 = search rules in
-    let y : c.fill-4.new.self ≡ replicate (cells_in i.grid) 0 = search rules in
+    let z : c.clear-3.new.buffer ≡ replicate (cells_in i.grid) 0 = search rules in
+    let y : c.clear-4.new.buffer ≡ replicate (cells_in i.grid) 0 = search rules in
     answers_loop i.grid.sheet.rows i.grid.sheet.cols i.grid.codes.now i.numbers.now _ _ i.grid.long c.scan.ensures.counting (rw c.in-Some.is at c.first_left-left.ensures) c.loop_length-length.ensures y z

@@ -13,7 +13,7 @@ beside-requires-clause-code_is_arrow c =
 pub border_number-requires-clause-on_edge : goal.border_number-requires-clause-on_edge
 border_number-requires-clause-on_edge c =
     let g = c.args.self.now.grid in
-    rw (c.tile_of.ensures.rows, c.tile_of.ensures.cols)
+    rw (c.as_tile.ensures.rows, c.as_tile.ensures.cols)
     (found_edge g.sheet.rows g.sheet.cols g.codes.now c.args.at.row c.args.at.col c.requires.on_grid g.long c.requires.on_land (rw c.place.ensures at c.in-None.ensures))
 
 pub overflow_cast-result : goal.overflow_cast-result
@@ -22,7 +22,7 @@ overflow_cast-result c =
     omega (
       arith,
       number_fits g.sheet.rows g.sheet.cols g.codes.now c.args.at.row c.args.at.col c.requires.on_grid g.long c.requires.on_land (rw c.place.ensures at c.in-None.ensures) c.args.self.now.free.shape,
-      rw (c.tile_of.ensures.rows, c.tile_of.ensures.cols) at c.border_number.ensures,
+      rw (c.as_tile.ensures.rows, c.as_tile.ensures.cols) at c.border_number.ensures,
     )
 
 pub returns-in-Some : goal.returns-in-Some
@@ -35,4 +35,4 @@ returns-in-None c =
     let g = c.args.self.now.grid in
     rw c.place.ensures
     (found_over g.sheet.rows g.sheet.cols g.codes.now c.args.at.row c.args.at.col c.requires.on_grid g.long c.requires.on_land (rw c.place.ensures at c.in-None.ensures) _
-    (rw (c.tile_of.ensures.rows, c.tile_of.ensures.cols) at c.border_number.ensures))
+    (rw (c.as_tile.ensures.rows, c.as_tile.ensures.cols) at c.border_number.ensures))
