@@ -32,7 +32,7 @@ impl Net for Arrows<'_> {
 }
 
 // The cell that the water of p goes to, if it goes to one.
-pub(crate) fn arrow(to: &[u32], p: usize) -> Option<usize>
+pub fn arrow(to: &[u32], p: usize) -> Option<usize>
     requires { p < length to.now }
     ensures { SomeIff result (to_at to.now p < length to.now) (to_at to.now p) }
 {

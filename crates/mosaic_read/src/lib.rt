@@ -1,7 +1,7 @@
 // Reading the border records of a mosaic: whether they are well formed, or the first fault.
 #![tactic(auto)]
 
-mod bytes;
+pub mod bytes;
 mod parts;
 mod reading;
 pub mod record;

@@ -1,24 +1,11 @@
 // How far reading the records of a mosaic has come, and the step past a record.
 ghost use Rattle.std.specs.Prelude.{◌≡◌, ◌≤◌};
-ghost use Rattle.mosaic_read.specs.Method.{Reached, WholeBefore, Says};
-ghost use Rattle.mosaic_read.specs.Records.{start_of};
+ghost use Rattle.mosaic_read.specs.Method.{Reached, Says};
 
 use crate::ReadError;
-use crate::bytes::two_at;
+use crate::bytes::{start_of, two_at};
 use crate::record::BorderRecord;
 use sheet::shape::Sheet;
-
-// Where record t begins: past each of the records before it.
-fn start_of(records: &[u8], t: usize) -> usize
-    requires { WholeBefore records.now t }
-    ensures { result ≡ start_of records.now t }
-{
-    let mut start = 0;
-    for _ in 0..t {
-        start = BorderRecord::at(records, start).end();
-    }
-    start
-}
 
 // All records before record t are read. It begins at byte `start`; above its tile row stand so many rows, and left of its tile column so many columns.
 #[derive(Clone, Copy)]

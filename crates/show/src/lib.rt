@@ -1,7 +1,7 @@
 // Writing the answer of the count program: lines of words and numbers, and a grid of counts.
 #![tactic(auto)]
 
-ghost use Rattle.std.specs.Prelude.{◌≡◌, [], ◌∷◌, ◌++◌, ◌+◌, ◌*◌, length};
+ghost use Rattle.std.specs.Prelude.{◌≡◌, [], ◌∷◌, ◌++◌, ◌+◌, ◌*◌, ◌≤◌, length};
 ghost use Rattle.text.specs.Text.{decimal, lines};
 ghost use Rattle.writer.specs.Parts.{Room, Writes};
 ghost use Rattle.show.specs.Parts.{items};
@@ -13,7 +13,7 @@ use writer::Writer;
 
 // Writes a number.
 #[tactic(auto, using(text::proofs::Decimal::step_long, text::proofs::Decimal::decimal_some, writer::proofs::Wrote::writes_long))]
-fn write_number(to: &mut Writer<'_>, n: usize)
+pub fn write_number(to: &mut Writer<'_>, n: usize)
     requires { Room (length (decimal n)) to.old }
     ensures { Writes (decimal n) to.old to.new }
 {
@@ -25,15 +25,16 @@ fn write_number(to: &mut Writer<'_>, n: usize)
 }
 
 // Writes a grid of numbers, a line for each row.
-fn write_grid(to: &mut Writer<'_>, shape: Shape<MOST>, numbers: &[u32])
-    requires grid { length numbers.now ≡ shape.rows * shape.cols }
-    requires room { Room (length (lines shape.rows shape.cols numbers.now)) to.old }
-    ensures { Writes (lines shape.rows shape.cols numbers.now) to.old to.new }
+pub fn write_grid(to: &mut Writer<'_>, rows: usize, cols: usize, numbers: &[u32])
+    requires some_cols { 1 ≤ cols }
+    requires grid { length numbers.now ≡ rows * cols }
+    requires room { Room (length (lines rows cols numbers.now)) to.old }
+    ensures { Writes (lines rows cols numbers.now) to.old to.new }
 {
-    for row in 0..shape.rows {
-        for col in 0..shape.cols {
-            write_number(to, numbers[row * shape.cols + col] as usize);
-            to.byte(end_of(shape.cols - 1 - col));
+    for row in 0..rows {
+        for col in 0..cols {
+            write_number(to, numbers[row * cols + col] as usize);
+            to.byte(end_of(cols - 1 - col));
         }
     }
 }
@@ -90,7 +91,7 @@ pub fn write_done(
         to,
         &[Item(b"rows ", shape.rows), Item(b" cols ", shape.cols)],
     );
-    write_grid(to, shape, counts);
+    write_grid(to, shape.rows, shape.cols, counts);
     write_line(
         to,
         &[

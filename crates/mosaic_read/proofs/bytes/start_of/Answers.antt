@@ -1,4 +1,4 @@
--- `mosaic_read::reading::start_of` meets its contract: each turn passes one record.
+-- `mosaic_read::bytes::start_of` meets its contract: each turn passes one record.
 -- Assumes nothing.
 use mathlib.Core.Path.{sym, ap, ◌∙◌}
 use native.Mathlib.Numerals.{add-one}
@@ -6,7 +6,7 @@ use native.Mathlib.Omega.{arith}
 use Rattle.mosaic_read.specs.Records.{start_of}
 use Rattle.mosaic_read.proofs.Sides.{end_is}
 use Rattle.mosaic_read.proofs.Starts.{start_none, start_next}
-use Rattle.mosaic_read.proofs.reading.start_of.Goals as goal
+use Rattle.mosaic_read.proofs.bytes.start_of.Goals as goal
 
 pub loop-init : goal.loop-init
 loop-init c = sym (start_none _)
