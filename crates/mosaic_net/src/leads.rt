@@ -4,8 +4,8 @@ ghost use Rattle.mosaic_step.specs.Mosaic.{all_in};
 ghost use Rattle.mosaic_net.specs.Net.{leads_in};
 
 use crate::write::Told;
-use mosaic_read::way::BorderWay;
 use mosaic_step::tiles::MosaicTile;
+use tile::way::BorderWay;
 
 // The exit that a border cell leads to, by its number in the mosaic, whose border cells are `none` in number; that where the water ends inside,
 // and one more where the cell is absent.
@@ -23,7 +23,7 @@ impl Told for Leads {
         match tile.border.told(b) {
             BorderWay::Absent => (self.none + 1) as u32,
             BorderWay::Inside => self.none as u32,
-            BorderWay::Over { number, .. } => (tile.first + number) as u32,
+            BorderWay::Over { number, .. } => (tile.first + usize::from(number)) as u32,
         }
     }
 }

@@ -14,7 +14,7 @@ fn pour(tile: &MosaicTile, leads: &[u32], b: usize) -> Option<usize>
     requires border { b < tile.now.border.borders }
     ensures { LeadsTo (all_in tile.now.tiles.mosaic) (pours_in tile.now.tiles.mosaic (tile.now.first + b)) result }
 {
-    if tile.border.way(b) != b {
+    if usize::from(tile.border.way(b)) != b {
         return None;
     }
     let h = tile.onto(b)?;
@@ -54,7 +54,7 @@ impl Told for Own {
     ghost tells = { λ _ m. own_in m };
 
     fn tell(&self, tile: &MosaicTile, b: usize) -> u32 {
-        if tile.border.way(b) != b {
+        if usize::from(tile.border.way(b)) != b {
             return 0;
         }
         tile.border.count(b)

@@ -3,8 +3,8 @@
 use Rattle.std.specs.Prelude.{◌≡◌, ℕ}
 use Rattle.mosaic_read.specs.BorderRecord.{record_way, record_code}
 use Rattle.mosaic_read.specs.declared.record.BorderRecord.{BorderRecord}
-use Rattle.mosaic_read.specs.declared.way.BorderWay.{BorderWay}
-use Rattle.mosaic_read.specs.declared.way.BorderWay.TheVariants.{Absent, Inside, Over}
+use Rattle.tile.specs.declared.way.BorderWay.{BorderWay}
+use Rattle.tile.specs.declared.way.BorderWay.TheVariants.{Absent, Inside, Over}
 
 module _ (r : BorderRecord) (b : ℕ) where
   -- the two marks

@@ -5,7 +5,7 @@ pub mod bytes;
 mod parts;
 mod reading;
 pub mod record;
-pub mod way;
+mod way;
 
 ghost use Rattle.mosaic_read.specs.Read.{MosaicShape, ReadPromise, read_reply};
 

@@ -5,9 +5,9 @@ ghost use Rattle.mosaic_read.specs.Method.{Says};
 
 use crate::bytes::two_at;
 use crate::record::BorderRecord;
-use crate::way::BorderWay;
 use sheet::compass::is_arrow;
 use tile::border::border_spot;
+use tile::way::BorderWay;
 
 impl BorderRecord<'_> {
     ghost use Rattle.mosaic_read.specs.BorderRecord.{Inside, RecordCountsOk, RecordWayOk, RecordWaysOk};
@@ -45,19 +45,20 @@ impl BorderRecord<'_> {
                 if count == 0 {
                     return false;
                 }
-                if self.borders <= number {
+                let to = usize::from(number);
+                if self.borders <= to {
                     return false;
                 }
-                if self.way(number) != number {
+                if self.way(to) != number {
                     return false;
                 }
-                if self.code(number) != code {
+                if self.code(to) != code {
                     return false;
                 }
                 if !is_arrow(code) {
                     return false;
                 }
-                let spot = border_spot(self.tile, number);
+                let spot = border_spot(self.tile, to);
                 self.tile.sheet().beside(spot, code).is_none()
             }
         }

@@ -82,11 +82,11 @@ impl<'a> BorderRecord<'a> {
     }
 
     // The border number of its way.
-    pub fn way(&self, b: usize) -> usize
+    pub fn way(&self, b: usize) -> u16
         requires { Inside self.now × (b < self.now.borders) }
         ensures { result ≡ record_way self.now b }
     {
-        two_at(self.bytes, self.start + 17 + 4 * self.borders + 3 * b)
+        two_at(self.bytes, self.start + 17 + 4 * self.borders + 3 * b) as u16
     }
 
     // The code of its way.

@@ -2,14 +2,7 @@
 ghost use Rattle.std.specs.Prelude.{◌<◌};
 
 use crate::record::BorderRecord;
-
-// Where the water of a border cell leaves the tile: the cell is absent, its water ends inside, or the record names a border cell and a code.
-#[derive(Clone, Copy)]
-pub enum BorderWay {
-    Absent,
-    Inside,
-    Over { number: usize, code: u8 },
-}
+use tile::way::{ABSENT, BorderWay, ENDS_INSIDE, NO_WAY};
 
 impl BorderRecord<'_> {
     ghost use Rattle.mosaic_read.specs.BorderRecord.{Inside};
@@ -21,8 +14,8 @@ impl BorderRecord<'_> {
         ensures { Tells self.now b result }
     {
         match (self.way(b), self.code(b)) {
-            (65535, 255) => BorderWay::Absent,
-            (65535, 0) => BorderWay::Inside,
+            (NO_WAY, ABSENT) => BorderWay::Absent,
+            (NO_WAY, ENDS_INSIDE) => BorderWay::Inside,
             (number, code) => BorderWay::Over { number, code },
         }
     }

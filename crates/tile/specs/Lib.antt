@@ -1,2 +1,3 @@
 pub mod Border
 pub mod Way
+pub mod Told

@@ -1,5 +1,5 @@
-// Tiles: the tile that a grid is, its border cells, numbered in order of place, and what a record holds of a border cell without a way over the
-// edge. (Where the water of their cells leaves them is defined in specs/Way.antt; crate tile_ways finds it.)
+// Tiles: the tile that a grid is, its border cells, numbered in order of place, and the way of a border cell, with what a record holds of it. (Where the
+// water of their cells leaves them is defined in specs/Way.antt; crate tile_ways finds it.)
 #![tactic(auto)]
 
 pub mod border;

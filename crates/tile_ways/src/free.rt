@@ -3,11 +3,11 @@ ghost use Rattle.std.specs.Prelude.{true, ◌≡◌};
 ghost use Rattle.sheet.specs.Grid.{OnGrid, land_in, place_in};
 ghost use Rattle.tile_ways.specs.Ways.{FreeTile};
 
-use crate::way::BorderWay;
 use sheet::grid::Grid;
 use sheet::step::Spot;
 use tile::border::border_number;
 use tile::shape::as_tile;
+use tile::way::BorderWay;
 
 // The codes of a tile whose arrows form no loop.
 #[derive(Clone, Copy)]
@@ -17,7 +17,7 @@ pub struct FreeGrid<'a> {
 }
 
 impl<'a> FreeGrid<'a> {
-    ghost use Rattle.tile_ways.specs.Told.{told};
+    ghost use Rattle.tile.specs.Told.{told};
     ghost use Rattle.tile_ways.specs.Ways.{end_way_in};
 
     // The way of a path whose last cell this is: over the edge there, or it ends inside.

@@ -3,7 +3,6 @@
 
 pub mod free;
 mod walk;
-mod way;
 
 ghost use Rattle.std.specs.Prelude.{◌≡◌, ◌+◌, ◌*◌, ◌<◌};
 ghost use Rattle.tile_bytes.specs.Bytes.{field, each, way_bytes};

@@ -3,9 +3,9 @@ ghost use Rattle.std.specs.Prelude.{◌≡◌, ◌<◌};
 ghost use Rattle.tile_ways.specs.Ways.{Known};
 
 use crate::free::FreeGrid;
-use crate::way::BorderWay;
 use sheet::compass::is_arrow;
 use sheet::step::Spot;
+use tile::way::BorderWay;
 
 // A tile, and the last cells that are known: `known` holds one more than the place of the last cell of a cell's path, or 0 where that is not
 // known yet, so that no cell's last cell is sought again once it is known.
@@ -20,7 +20,7 @@ impl<'a> Walk<'a> {
     ghost use Rattle.std.specs.Prelude.{MatchOption};
     ghost use Rattle.sheet.specs.Grid.{OnGrid, cells_in, place_in};
     ghost use Rattle.sheet.specs.Sheet.{count_at};
-    ghost use Rattle.tile_ways.specs.Told.{told};
+    ghost use Rattle.tile.specs.Told.{told};
     ghost use Rattle.tile_ways.specs.Ways.{last_in, way_in};
 
     // The place of the last cell of the path from place p, where it is known.

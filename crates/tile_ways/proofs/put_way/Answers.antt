@@ -2,7 +2,7 @@
 -- Assumes nothing.
 use mathlib.Core.Path.{◌≡◌, ap, ◌∙◌}
 use Rattle.tile_bytes.specs.Bytes.{way_bytes}
-use Rattle.tile_ways.specs.Told.{told}
+use Rattle.tile.specs.Told.{told}
 use Rattle.tile_ways.specs.Ways.{way_in, border_way_in}
 use Rattle.writer.proofs.Wrote.{writes_is, writes_then}
 use Rattle.tile_ways.proofs.put_way.Goals as goal

@@ -35,4 +35,4 @@ pub returns-in-Inside : goal.returns-in-Inside
 returns-in-Inside c = c.requires.fits ∙ lead_ends c.args.tile.now c.args.b c.requires.border c.in-Inside.ensures
 
 pub returns-in-Over : goal.returns-in-Over
-returns-in-Over c = lead_over c.args.tile.now c.args.b c.requires.border c.in-Over.ensures
+returns-in-Over c = rw c.from.ensures (lead_over c.args.tile.now c.args.b c.requires.border c.in-Over.ensures)
