@@ -43,7 +43,9 @@ def functions(text):
         own = re.search(r"^[ ]*\{[ ]*$", rest, re.M)
         clause = re.search(r"^\s+(requires|ensures)", rest, re.M)
         start = own if clause and own and clause.start() < own.start() and (not body or clause.start() < body.start()) else body
-        if start:
+        # a member of a trait that ends in a semicolon has none
+        member = re.search(r";[ ]*$", rest, re.M)
+        if start and not (member and member.start() < start.start()):
             yield found.group(1), block(rest, rest.index("{", start.start()))
 
 

@@ -55,7 +55,7 @@ impl From<Result<Totals, CountError>> for Flat {
                     outlets,
                     greatest,
                 },
-            ) => Flat::replied(0, land as u64, outlets as u64, greatest as u64),
+            ) => Flat::replied(0, land as u64, outlets as u64, u64::from(greatest)),
             Err(CountError::Shape) => Flat::replied(1, 0, 0, 0),
             Err(CountError::Length) => Flat::replied(2, 0, 0, 0),
             Err(CountError::Code(place)) => Flat::replied(3, place as u64, 0, 0),
