@@ -7,7 +7,7 @@ use mathlib.Core.Logic.{inl, inr}
 use Prim.Native.Nat.{ℕ, ◌+◌, ◌*◌, ◌%◌, ◌<◌, ◌≤◌}
 use native.Mathlib.Omega.{arith}
 use lib.Dec.{eqb}
-use lib.ListN.{length, get_or}
+use lib.ListN.{length}
 use borrow.Author.Tests.{eqb-true, eq-eqb, ne_eqb}
 use Rattle.flow.specs.Net.{on, sum, given}
 use Rattle.flow.proofs.Sum.{same, on_true, on_eq, on_ne, sum_ext, sum_add, sum_mono, sum_some, sum_times}
@@ -19,7 +19,7 @@ use Rattle.sheet.specs.Compass.{step_at, is_arrow}
 use Rattle.sheet.specs.Sheet.{code_at, count_at, land_at, dest_of}
 use Rattle.std.specs.Prelude.{Some, None}
 use Rattle.around.proofs.Bridge.{bridge}
-use Rattle.sheet.proofs.Dest.{code_read, no_land}
+use Rattle.sheet.proofs.Dest.{no_land}
 
 -- a sum of eight, written out
 pub sum_eight : (f : ℕ → ℕ) {a b c d e g h i : ℕ} → a ≡ f 0 → b ≡ f 1 → c ≡ f 2 → d ≡ f 3 → e ≡ f 4 → g ≡ f 5 → h ≡ f 6 → i ≡ f 7

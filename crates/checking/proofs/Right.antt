@@ -3,15 +3,12 @@
 use mathlib.Core.Bool.{true, false, true≢false}
 use mathlib.Core.List.{List}
 use mathlib.Core.Path.{◌≡◌, sym, ap, ◌∙◌}
-use Prim.Native.Nat.{ℕ, ◌+◌, ◌*◌, ◌<◌, ◌≤◌}
-use native.Mathlib.Nat.{mul-le-mul_right, suc-mul}
-use native.Mathlib.Numerals.{add-one}
+use Prim.Native.Nat.{ℕ, ◌+◌, ◌*◌, ◌<◌}
 use native.Mathlib.Omega.{arith}
 use lib.Dec.{eqb}
 use lib.ListN.{get_or}
 use borrow.Author.Count.{below_more}
 use borrow.Author.Tests.{eqb-true, eq-eqb}
-use Rattle.promise.specs.Links.{FirstNot}
 use Rattle.flow.specs.Net.{given}
 use Rattle.flow.proofs.Sum.{on_true, on_false}
 use Rattle.sheet.specs.Sheet.{land_at, dest_of, unit, count_at}

@@ -16,7 +16,6 @@ use Rattle.sheet.proofs.Dest.{dest_beyond}
 use Rattle.sheet.proofs.Gather.{number_le}
 use Rattle.sheet.proofs.Places.{laid_area}
 use Rattle.mend_moves.specs.Moves.{Owing}
-use Rattle.sheet.specs.Sheet.{CountsOf}
 
 module _ (rows cols : ℕ) (g c : List ℕ) (t more less : ℕ) (laid : Laid rows cols g c) (free : SheetNoLoop rows cols g) (s : Owing rows cols g c t more less)
     (small : less ≤ rows * cols) (lt : t < rows * cols) where

@@ -3,10 +3,9 @@
 use Prim.Native.Nat.{ℕ, ◌<◌}
 use mathlib.Core.Bool.{false, true≢false}
 use mathlib.Core.Path.{◌≡◌, sym, ap, ◌∙◌}
-use mathlib.Core.List.{List}
 use lib.Dec.{eqb}
 use borrow.Author.Tests.{eq-eqb}
-use Rattle.promise.specs.Reply.{Reply, reply, number_of}
+use Rattle.promise.specs.Reply.{Reply, number_of}
 use Rattle.promise.specs.Links.{Unless, UnlessAll, UnlessSome}
 use Rattle.promise.specs.Links.Unless.{refused, met}
 use Rattle.promise.specs.Links.UnlessAll.{refused_at, met_all}

@@ -1,19 +1,17 @@
 -- What a loop over the places gathers: one place more.
 -- Assumes nothing.
 use mathlib.Core.Path.{◌≡◌, sym, ap, ◌∙◌}
-use mathlib.Core.Bool.{Bool, true, false, not, cond}
-use Rattle.std.proofs.lemmas.List.Recursion.{is_count_by}
+use mathlib.Core.Bool.{Bool, true, false, not}
 use mathlib.Core.List.{List}
 use mathlib.Core.Logic.{inl, inr}
 use lib.ListN.{length, get_or}
 use mathlib.Core.List.{[], ◌∷◌}
-use Rattle.std.specs.List.{count_by, fold}
+use Rattle.std.specs.List.{fold}
 use Prim.Native.Nat.{ℕ, zero, suc, ◌+◌, ◌<◌, ◌≤◌, max}
 use native.Mathlib.Omega.{arith}
-use native.Mathlib.Numerals.{add-one}
 use borrow.Author.Tests.{not-false}
 use Rattle.flow.specs.Net.{on, sum, number}
-use Rattle.flow.proofs.Sum.{test, sum_next, sum_first, on_true, on_false, sum_ones, sum_mono, sum_at_least}
+use Rattle.flow.proofs.Sum.{test, sum_next, on_true, on_false, sum_ones, sum_mono, sum_at_least}
 use Rattle.flow.proofs.Bound.{on_le}
 use Rattle.sheet.specs.Sheet.{code_at, CodeOk}
 use Rattle.sheet.specs.Compass.{is_code}

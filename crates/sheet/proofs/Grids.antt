@@ -1,13 +1,10 @@
 -- A grid as the code holds it, in the words for a sheet with its buffers.
 -- Assumes nothing.
 use mathlib.Core.List.{List}
-use mathlib.Core.Path.{◌≡◌, refl}
-use Prim.Native.Nat.{ℕ, ◌*◌, ◌<◌}
+use mathlib.Core.Path.{◌≡◌}
+use Prim.Native.Nat.{ℕ, ◌*◌}
 use lib.ListN.{length}
-use native.Mathlib.Omega.{arith}
-use Rattle.std.specs.Prelude.{Option, Some, None, IsSome}
-use Rattle.sheet.specs.Grid.{LeadsTo}
-use Rattle.sheet.specs.Leaves.{Laid, Place}
+use Rattle.sheet.specs.Leaves.{Laid}
 use Rattle.sheet.specs.declared.grid.Grid.{Grid}
 
 -- a grid with a buffer of its length

@@ -2,13 +2,12 @@
 -- Assumes nothing.
 use mathlib.Core.Bool.{true}
 use mathlib.Core.Path.{◌≡◌, ◌∙◌}
-use Prim.Native.Nat.{ℕ, ◌+◌, ◌-◌, ◌*◌, ◌/◌, ◌%◌, ◌<◌, ◌≤◌}
+use Prim.Native.Nat.{ℕ, ◌+◌, ◌-◌, ◌*◌, ◌<◌, ◌≤◌}
 use native.Mathlib.Omega.{arith}
-use native.Mathlib.Nat.{mul-le-mul, div-add-mod'}
 use Rattle.sheet.specs.Leaves.{Place, Cell, SpotIs}
 use Rattle.sheet.specs.Shape.{within}
 use Rattle.sheet.specs.declared.step.Spot.{Spot}
-use Rattle.sheet.proofs.Places.{place_lt, within_true, row_lt, col_lt}
+use Rattle.sheet.proofs.Places.{place_lt, within_true}
 
 -- ---- numbers that fit
 
