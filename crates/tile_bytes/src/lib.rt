@@ -14,15 +14,15 @@ use tile::border::{border_cells, border_place};
 use writer::Writer;
 
 // Puts a number in two bytes, the higher first.
-pub fn put_two(to: &mut Writer<'_>, n: u16)
+pub fn put_two(to: &mut Writer<'_>, n: usize)
     requires { Room 2 to.old }
     ensures { Writes (two n) to.old to.new }
 {
-    to.bytes(&n.to_be_bytes());
+    to.bytes(&((n % 65536) as u16).to_be_bytes());
 }
 
 // Puts a field's tag and its length.
-pub fn put_head(to: &mut Writer<'_>, tag: u8, contents: u16)
+pub fn put_head(to: &mut Writer<'_>, tag: u8, contents: usize)
     requires { Room 3 to.old }
     ensures { Writes (tag ∷ two contents) to.old to.new }
 {
@@ -36,10 +36,10 @@ pub fn write_sides(to: &mut Writer<'_>, tile: Tile, position: Position)
     ensures { Writes (field 1 (sides tile.rows tile.cols position.row position.col)) to.old to.new }
 {
     put_head(to, 1, 8);
-    put_two(to, tile.rows as u16);
-    put_two(to, tile.cols as u16);
-    put_two(to, position.row as u16);
-    put_two(to, position.col as u16);
+    put_two(to, tile.rows);
+    put_two(to, tile.cols);
+    put_two(to, position.row);
+    put_two(to, position.col);
 }
 
 // Puts the count of border cell b, the highest byte first.
@@ -69,6 +69,6 @@ pub fn write_counts(to: &mut Writer<'_>, tile: Tile, counts: &[u32])
     requires room { Room (3 + 4 * border_cells tile.rows tile.cols) to.old }
     ensures { Writes (field 2 (each (border_cells tile.rows tile.cols) (λ b. border_count tile.rows tile.cols counts.now b))) to.old to.new }
 {
-    put_head(to, 2, 4 * border_cells(tile) as u16);
+    put_head(to, 2, 4 * border_cells(tile));
     put_counts(to, tile, counts);
 }

@@ -25,7 +25,7 @@ fn put_way(to: &mut Writer<'_>, walk: &mut Walk<'_>, b: usize)
 {
     let spot = border_spot(as_tile(&walk.free.grid), b);
     let (number, code) = walk.way_of(spot).fields();
-    put_two(to, number);
+    put_two(to, usize::from(number));
     to.byte(code);
 }
 
@@ -45,6 +45,6 @@ pub fn write_ways(to: &mut Writer<'_>, free: &FreeGrid<'_>, known: &mut [u32])
     requires room { Room (3 + 3 * borders_in free.now.grid) to.old }
     ensures { Writes (field 3 (each (borders_in free.now.grid) (λ b. way_bytes (border_way_in free.now.grid b)))) to.old to.new }
 {
-    put_head(to, 3, 3 * border_cells(as_tile(&free.grid)) as u16);
+    put_head(to, 3, 3 * border_cells(as_tile(&free.grid)));
     put_ways(to, &mut Walk { free, known });
 }

@@ -8,9 +8,6 @@ use Rattle.tile_bytes.proofs.Each.{counts_long}
 use Rattle.tile_bytes.proofs.Fields.{puts_field}
 use Rattle.tile_bytes.proofs.write_counts.Goals as goal
 
-pub overflow_cast-border_cells : goal.overflow_cast-border_cells
-overflow_cast-border_cells c = let m = cells_most _ _ c.args.tile.bounds in grind arith
-
 pub overflow_mul-border_cells : goal.overflow_mul-border_cells
 overflow_mul-border_cells c = let m = cells_most _ _ c.args.tile.bounds in grind arith
 

@@ -8,9 +8,6 @@ use Rattle.tile_bytes.proofs.Fields.{puts_field}
 use Rattle.tile_ways.specs.Ways.{border_way_in, borders_in}
 use Rattle.tile_ways.proofs.write_ways.Goals as goal
 
-pub overflow_cast-border_cells : goal.overflow_cast-border_cells
-overflow_cast-border_cells c = let m = cells_most _ _ c.as_tile.result.bounds in omega arith
-
 pub overflow_mul-border_cells : goal.overflow_mul-border_cells
 overflow_mul-border_cells c = let m = cells_most _ _ c.as_tile.result.bounds in omega arith
 
