@@ -7,9 +7,9 @@ pub mod method;
 
 ghost use Rattle.listed_net.specs.Net.{NetLent, NetPromise};
 
-use crate::arrows::{Arrows, gather};
-use crate::method::{first_open, scan};
-use round::{LoopFound, others_on_loop};
+use crate::arrows::gather;
+use crate::method::{first_open, loop_length, scan};
+use round::LoopFound;
 
 // Counts on the net `to`: the totals hold the weights at first, and the counts when done. After a loop the totals and the work buffer may
 // hold anything.
@@ -23,7 +23,7 @@ pub fn count_net(to: &[u32], totals: &mut [u32], waiting: &mut [u32]) -> Result<
     scan(to, totals, waiting);
     match first_open(waiting) {
         Some(first) => {
-            let length = others_on_loop(&Arrows { to }, first) + 1;
+            let length = loop_length(to, first);
             Err(LoopFound { first, length })
         }
         None => Ok(()),

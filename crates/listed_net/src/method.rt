@@ -1,9 +1,12 @@
 // Handing on, one loop a function.
-ghost use Rattle.std.specs.Prelude.{◌<◌, Some, None, length};
+ghost use Rattle.std.specs.Prelude.{◌≡◌, ◌<◌, ◌≤◌, Some, None, length};
+ghost use Rattle.flow.specs.Net.{loop_length, OnLoop};
 ghost use Rattle.promise.specs.First.{Finds};
+ghost use Rattle.listed_net.specs.Net.{to_at};
 ghost use Rattle.listed_net.specs.Method.{Half, Ready, Moved, Scanned, IsDone, left};
 
-use crate::arrows::arrow;
+use crate::arrows::{Arrows, arrow};
+use round::others_on_loop;
 
 // Marks a cell that has handed on, in place of the number of the givers that it waits for.
 const HANDED_ON: u32 = u32::MAX;
@@ -51,4 +54,13 @@ pub fn first_open(waiting: &[u32]) -> Option<usize>
     ensures { Finds (length waiting.now) (IsDone waiting.now) result }
 {
     waiting.iter().position(|w| *w != HANDED_ON)
+}
+
+// The length of the loop that `start` lies on.
+pub fn loop_length(to: &[u32], start: usize) -> usize
+    requires to_len_bound { length to.now ≤ 1000000 }
+    requires on_loop { OnLoop (length to.now) (to_at to.now) start }
+    ensures { result ≡ loop_length (length to.now) (to_at to.now) start }
+{
+    others_on_loop(&Arrows { to }, start) + 1
 }

@@ -36,3 +36,19 @@ pub fn after(at: Spot, code: u8) -> Spot
         Meaning::Bad => unreachable!(),
     }
 }
+
+// One more than the row that is one step of an arrow from row x, whatever its column.
+pub fn row_after(x: usize, code: u8) -> usize
+    requires { (x < 4096) × (is_arrow code ≡ true) }
+    ensures { result ≡ x + lift (step_of code).1 }
+{
+    after(Spot { row: x, col: 0 }, code).row
+}
+
+// One more than the column that is one step of an arrow from column x, whatever its row.
+pub fn col_after(x: usize, code: u8) -> usize
+    requires { (x < 4096) × (is_arrow code ≡ true) }
+    ensures { result ≡ x + lift (step_of code).2 }
+{
+    after(Spot { row: 0, col: x }, code).col
+}

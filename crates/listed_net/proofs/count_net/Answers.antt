@@ -1,5 +1,6 @@
 -- `listed_net::count_net` meets its contract: the end of the scan says what is left, and whether anything is.
 -- Assumes nothing.
+use mathlib.Core.Path.{sym}
 use Rattle.std.proofs.Common.{arith, rules, length}
 use Rattle.listed_net.specs.Net.{to_at}
 use Rattle.listed_net.proofs.Whole.{givers_given, half_start, weighed_start, whole_done, whole_on_loop, whole_loop}
@@ -14,15 +15,15 @@ scan-requires c =
     let givers = c.gather.ensures (λ q. 1) (λ q x l e. search rules) in
     half_start c.args.to.now c.args.totals.now _ c.requires.cells_most givers c.requires.weights_long c.requires.weights_fit
 
-pub others_on_loop-length-requires : goal.others_on_loop-length-requires
-others_on_loop-length-requires c = whole_on_loop c.scan.ensures c.in-Some.ensures
+pub loop_length-length-requires-clause-on_loop : goal.loop_length-length-requires-clause-on_loop
+loop_length-length-requires-clause-on_loop c = whole_on_loop c.scan.ensures c.in-Some.ensures
 
 pub returns-in-Some : goal.returns-in-Some
 returns-in-Some c =
     record {
       totals_long = c.scan.ensures.half.totals_long;
       waiting_long = c.scan.ensures.half.waiting_long;
-      answers = whole_loop c.scan.ensures c.in-Some.ensures c.others_on_loop-length.ensures.one_more;
+      answers = whole_loop c.scan.ensures c.in-Some.ensures (sym c.loop_length-length.ensures);
     }
 
 pub returns-in-None : goal.returns-in-None
