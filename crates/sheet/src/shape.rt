@@ -51,12 +51,13 @@ impl Tile {
 
     pub const MOST_COLS: usize = TILE_MOST;
 
-    // A tile as a sheet of its own.
+    // A tile as a sheet of its own. (The bounds that the type tells are those that `new` tests.)
     pub fn sheet(self) -> Sheet
         ensures tile { TileShape result.rows result.cols }
         ensures rows { result.rows ≡ self.rows }
         ensures cols { result.cols ≡ self.cols }
     {
+        prove!(Self::MOST_ROWS == TILE_MOST && Self::MOST_COLS == TILE_MOST);
         Shape {
             rows: self.rows,
             cols: self.cols,
@@ -73,10 +74,11 @@ impl Sheet {
 
     pub const MOST_COLS: usize = SHEET_MOST;
 
-    // The number of its cells.
+    // The number of its cells. (The bounds that the type tells are those that `new` tests.)
     pub fn cells(self) -> usize
         ensures { result ≡ self.rows * self.cols }
     {
+        prove!(Self::MOST_ROWS == SHEET_MOST && Self::MOST_COLS == SHEET_MOST);
         self.rows * self.cols
     }
 
