@@ -6,12 +6,11 @@ use Rattle.flow.specs.Net.{on}
 use Rattle.flow.proofs.Sum.{test, same, on_eq, on_ne}
 use Rattle.flow.proofs.HandOn.{Holds, open_cells, open_givers, open_givers_le, open_givers_none}
 use Rattle.flow.proofs.HandStep.{open_cells_fall, open_givers_fall, givers_done_on, loops_open_on, hand_on, open_sum_falls, open_sum_at}
-use Rattle.listed_net.specs.Method.{marked, Handing}
-use Rattle.listed_net.specs.declared.method.TheConstants.{HANDED_ON}
+use Rattle.listed_net.specs.Method.{handed_on, marked, Handing}
 
 -- t is marked, and the cell that its water goes to gets what t holds and waits for one giver fewer; nothing else changes
 pub record HandsOn (n : ℕ) (to c g : ℕ → ℕ) (t : ℕ) (d h : ℕ → ℕ) : Type 0 where
-  pub mark : h t ≡ HANDED_ON
+  pub mark : h t ≡ handed_on
   pub fewer : to t < n → h (to t) + 1 ≡ g (to t)
   pub still : (q : ℕ) → q < n → (q ≡ t → ⊥) → (q ≡ to t → ⊥) → h q ≡ g q
   pub given_on : to t < n → d (to t) ≡ c (to t) + c t
@@ -20,7 +19,7 @@ pub record HandsOn (n : ℕ) (to c g : ℕ → ℕ) (t : ℕ) (d h : ℕ → ℕ
 module _ {n : ℕ} {to c g : ℕ → ℕ} (most : n ≤ 1000000) (s : Handing n to c g) (t : ℕ) (ready : (t < n) × (g t ≡ 0)) where
   -- a cell that waits for no giver has not handed on
   open_t : marked g t ≡ false
-  open_t = ne_eqb (g t) HANDED_ON (λ e. omega (arith, ready.1))
+  open_t = ne_eqb (g t) handed_on (λ e. omega (arith, ready.1))
 
   -- all its givers have handed on
   givers : (q : ℕ) → q < n → to q ≡ t → marked g q ≡ true
@@ -47,7 +46,7 @@ module _ {n : ℕ} {to c g : ℕ → ℕ} (most : n ≤ 1000000) (s : Handing n 
 
   module _ {d h : ℕ → ℕ} (step : HandsOn n to c g t d h) where
     marked_t : marked h t ≡ true
-    marked_t = eq-eqb (h t) HANDED_ON step.mark
+    marked_t = eq-eqb (h t) handed_on step.mark
 
     marked_other : (q : ℕ) → q < n → (q ≡ t → ⊥) → marked h q ≡ marked g q
     marked_other q l e = elim (same q (to t)) [
@@ -55,8 +54,8 @@ module _ {n : ℕ} {to c g : ℕ → ℕ} (most : n ≤ 1000000) (s : Handing n 
           let lq : to t < n = omega arith in
           let u : h q + 1 ≡ g q = ap (λ (y : ℕ). h y + 1) x ∙ step.fewer lq ∙ ap g (sym x) in
           let m : g q ≤ n = omega (arith, (next_waits lq).1, ap g x) in
-          ne_eqb (h q) HANDED_ON (λ y. omega arith) ∙ sym (ne_eqb (g q) HANDED_ON (λ y. omega arith))
-      | inr x ↦ ap (λ (y : ℕ). eqb y HANDED_ON) (step.still q l e x)
+          ne_eqb (h q) handed_on (λ y. omega arith) ∙ sym (ne_eqb (g q) handed_on (λ y. omega arith))
+      | inr x ↦ ap (λ (y : ℕ). eqb y handed_on) (step.still q l e x)
     ]
 
     waits_on : (p : ℕ) → p < n → marked h p ≡ false → h p ≡ open_givers n to (marked h) p

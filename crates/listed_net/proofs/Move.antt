@@ -7,8 +7,7 @@ use Rattle.std.proofs.lemmas.Option.{same_Some, none-some}
 use Rattle.flow.proofs.Sum.{same, test}
 use Rattle.sheet.specs.Sheet.{count_at}
 use Rattle.listed_net.specs.Net.{to_at}
-use Rattle.listed_net.specs.Method.{Half, Ready, PassedBut, Moved, Scanned, left}
-use Rattle.listed_net.specs.declared.method.TheConstants.{HANDED_ON}
+use Rattle.listed_net.specs.Method.{handed_on, Half, Ready, PassedBut, Moved, Scanned, left}
 use Rattle.listed_net.proofs.Handed.{HandsOn, next_waits, next_other_cell, handed, handed_holds, handed_less, handed_fits}
 use Rattle.listed_net.proofs.Listed.{to_at_beyond}
 
@@ -35,16 +34,16 @@ module _ {to c g : List ℕ} (s : Half to c g) (t : ℕ) (ready : Ready to g (So
 
   -- ---- t is marked
 
-  mark : count_at (set g t HANDED_ON) t ≡ HANDED_ON
-  mark = get_or-set_same g t HANDED_ON 0 (omega (arith, s.waiting_long, ready.0))
+  mark : count_at (set g t handed_on) t ≡ handed_on
+  mark = get_or-set_same g t handed_on 0 (omega (arith, s.waiting_long, ready.0))
 
-  still : (q : ℕ) → (q ≡ t → ⊥) → count_at (set g t HANDED_ON) q ≡ count_at g q
-  still q e = get_or-set_other g t q HANDED_ON 0 e
+  still : (q : ℕ) → (q ≡ t → ⊥) → count_at (set g t handed_on) q ≡ count_at g q
+  still q e = get_or-set_other g t q handed_on 0 e
 
   -- ---- its water goes to no cell
 
   module _ (out : to_at to t < length to → ⊥) where
-    step_out : HandsOn (length to) (to_at to) (count_at c) (count_at g) t (count_at c) (count_at (set g t HANDED_ON))
+    step_out : HandsOn (length to) (to_at to) (count_at c) (count_at g) t (count_at c) (count_at (set g t handed_on))
     step_out = record {
       mark = mark;
       fewer = λ l. absurd (out l);
@@ -53,14 +52,14 @@ module _ {to c g : List ℕ} (s : Half to c g) (t : ℕ) (ready : Ready to g (So
       other = λ q l e. refl;
     }
 
-    pub moved_out : Moved to c g c (set g t HANDED_ON) (Some t) None
-    moved_out = moved_by c (set g t HANDED_ON) step_out refl (length-set g t HANDED_ON) tt (λ k w p l lk e z. elim (same p t) [
-      | inl x ↦ omega (arith, mark, ap (count_at (set g t HANDED_ON)) x)
+    pub moved_out : Moved to c g c (set g t handed_on) (Some t) None
+    moved_out = moved_by c (set g t handed_on) step_out refl (length-set g t handed_on) tt (λ k w p l lk e z. elim (same p t) [
+      | inl x ↦ omega (arith, mark, ap (count_at (set g t handed_on)) x)
       | inr x ↦ w p l lk (λ y. x (same_Some p t y)) (sym (still p x) ∙ z)
     ])
 
-    pub moved_out_less : left to (set g t HANDED_ON) < left to g
-    moved_out_less = less_by c (set g t HANDED_ON) step_out
+    pub moved_out_less : left to (set g t handed_on) < left to g
+    moved_out_less = less_by c (set g t handed_on) step_out
 
   -- ---- its water goes to cell u
 
@@ -69,27 +68,27 @@ module _ {to c g : List ℕ} (s : Half to c g) (t : ℕ) (ready : Ready to g (So
     off x = next_other_cell s.cells_most s.handing t ready (sym goes.1 ∙ x)
 
     -- u waits for t still
-    pub next_some : 0 < get_or (set g t HANDED_ON) u 0
+    pub next_some : 0 < get_or (set g t handed_on) u 0
     next_some = omega (arith, still u off, ap (count_at g) goes.1, (next_waits s.cells_most s.handing t ready goes.0).0)
 
     -- then for one giver fewer
     h : List ℕ
-    h = set (set g t HANDED_ON) u (get_or (set g t HANDED_ON) u 0 - 1)
+    h = set (set g t handed_on) u (get_or (set g t handed_on) u 0 - 1)
 
-    here : u < length (set g t HANDED_ON)
-    here = omega (arith, goes.0, goes.1, length-set g t HANDED_ON, s.waiting_long)
+    here : u < length (set g t handed_on)
+    here = omega (arith, goes.0, goes.1, length-set g t handed_on, s.waiting_long)
 
     at_u : count_at h u + 1 ≡ count_at g u
     unfolding h
-    at_u = omega (arith, get_or-set_same (set g t HANDED_ON) u (get_or (set g t HANDED_ON) u 0 - 1) 0 here, next_some, still u off)
+    at_u = omega (arith, get_or-set_same (set g t handed_on) u (get_or (set g t handed_on) u 0 - 1) 0 here, next_some, still u off)
 
-    at_t : count_at h t ≡ HANDED_ON
+    at_t : count_at h t ≡ handed_on
     unfolding h
-    at_t = get_or-set_other (set g t HANDED_ON) u t (get_or (set g t HANDED_ON) u 0 - 1) 0 (λ x. off (sym x)) ∙ mark
+    at_t = get_or-set_other (set g t handed_on) u t (get_or (set g t handed_on) u 0 - 1) 0 (λ x. off (sym x)) ∙ mark
 
     elsewhere : (q : ℕ) → (q ≡ t → ⊥) → (q ≡ to_at to t → ⊥) → count_at h q ≡ count_at g q
     unfolding h
-    elsewhere q x y = get_or-set_other (set g t HANDED_ON) u q (get_or (set g t HANDED_ON) u 0 - 1) 0 (λ z. y (z ∙ goes.1)) ∙ still q x
+    elsewhere q x y = get_or-set_other (set g t handed_on) u q (get_or (set g t handed_on) u 0 - 1) 0 (λ z. y (z ∙ goes.1)) ∙ still q x
 
     -- and holds what t holds too
     d : List ℕ
@@ -113,11 +112,11 @@ module _ {to c g : List ℕ} (s : Half to c g) (t : ℕ) (ready : Ready to g (So
     ]
 
     -- where u waits for none now, it is next
-    pub moved_in : Moved to c g (set c u (get_or c u 0 + get_or c t 0)) (set (set g t HANDED_ON) u (get_or (set g t HANDED_ON) u 0 - 1)) (Some t) (then_some (eqb (get_or (set (set g t HANDED_ON) u (get_or (set g t HANDED_ON) u 0 - 1)) u 0) 0) u)
+    pub moved_in : Moved to c g (set c u (get_or c u 0 + get_or c t 0)) (set (set g t handed_on) u (get_or (set g t handed_on) u 0 - 1)) (Some t) (then_some (eqb (get_or (set (set g t handed_on) u (get_or (set g t handed_on) u 0 - 1)) u 0) 0) u)
     unfolding d h
     moved_in = elim (test (eqb (get_or h u 0) 0)) [
-      | inl none ↦ rw none (moved_by d h step_in (length-set c u _) (length-set (set g t HANDED_ON) u _ ∙ length-set g t HANDED_ON) (omega (arith, goes.0, goes.1), eqb-true _ _ none) passed_but)
-      | inr some ↦ rw some (moved_by d h step_in (length-set c u _) (length-set (set g t HANDED_ON) u _ ∙ length-set g t HANDED_ON) tt (λ k w p l lk x z. elim (same p u) [
+      | inl none ↦ rw none (moved_by d h step_in (length-set c u _) (length-set (set g t handed_on) u _ ∙ length-set g t handed_on) (omega (arith, goes.0, goes.1), eqb-true _ _ none) passed_but)
+      | inr some ↦ rw some (moved_by d h step_in (length-set c u _) (length-set (set g t handed_on) u _ ∙ length-set g t handed_on) tt (λ k w p l lk x z. elim (same p u) [
         | inl y ↦ eqb-false _ _ some (ap (count_at h) (sym y) ∙ z)
         | inr y ↦ passed_but k w p l lk (λ a. y (same_Some p u a)) z
       ]))
@@ -127,7 +126,7 @@ module _ {to c g : List ℕ} (s : Half to c g) (t : ℕ) (ready : Ready to g (So
     pub next_fits : get_or c u 0 + get_or c t 0 < 4294967296
     next_fits = omega (arith, ap (count_at c) goes.1, handed_fits s.cells_most s.handing t ready step_in goes.0)
 
-    pub moved_less : left to (set (set g t HANDED_ON) u (get_or (set g t HANDED_ON) u 0 - 1)) < left to g
+    pub moved_less : left to (set (set g t handed_on) u (get_or (set g t handed_on) u 0 - 1)) < left to g
     unfolding h d
     moved_less = less_by d h step_in
 

@@ -9,8 +9,7 @@ use Rattle.promise.specs.Links.{FirstNot}
 use Rattle.sheet.specs.Sheet.{count_at}
 use Rattle.sheet.proofs.Gather.{number_le}
 use Rattle.listed_net.specs.Net.{to_at, NetCounts}
-use Rattle.listed_net.specs.Method.{marked, Gathered, Half, Scanned, Weighed, IsDone}
-use Rattle.listed_net.specs.declared.method.TheConstants.{HANDED_ON}
+use Rattle.listed_net.specs.Method.{handed_on, marked, Gathered, Half, Scanned, Weighed, IsDone}
 
 -- ---- before the scan: each cell waits for its givers
 
@@ -22,7 +21,7 @@ givers_given n to p = number_le n (λ q. eqb (to q) p)
 module _ (to c g : List ℕ) (most : length to ≤ 1000000) (s : Gathered to (λ q. 1) g (length to)) where
   -- no cell has handed on
   none_marked : (p : ℕ) → p < length to → marked (count_at g) p ≡ false
-  none_marked p l = ne_eqb (count_at g p) HANDED_ON (λ e. omega (arith, s.holds p l, givers_given (length to) (to_at to) p))
+  none_marked p l = ne_eqb (count_at g p) handed_on (λ e. omega (arith, s.holds p l, givers_given (length to) (to_at to) p))
 
   all_open : (p : ℕ) → given (length to) (to_at to) (λ q. 1) p ≡ open_givers (length to) (to_at to) (marked (count_at g)) p
   unfolding given open_givers

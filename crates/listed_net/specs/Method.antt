@@ -5,7 +5,6 @@ use Rattle.flow.specs.Net.{given}
 use Rattle.flow.proofs.HandOn.{Holds, GiversDone, LoopsOpen, open_cells, open_givers, open_sum}
 use Rattle.sheet.specs.Sheet.{count_at}
 use Rattle.listed_net.specs.Net.{to_at}
-use Rattle.listed_net.specs.declared.method.TheConstants.{HANDED_ON}
 
 -- ---- gathering
 
@@ -24,9 +23,12 @@ pub record Gathered (to : List ℕ) (held : ℕ → ℕ) (sums : List ℕ) (k : 
 
 -- ---- handing on
 
--- a cell that has handed on what it holds is marked in place of the number of the givers that it waits for
+-- a cell that has handed on what it holds is marked by this number, in place of the number of the givers that it waits for
+abbrev pub handed_on : ℕ
+handed_on = 4294967295
+
 abbrev pub marked : (ℕ → ℕ) → ℕ → Bool
-marked g p = eqb (g p) HANDED_ON
+marked g p = eqb (g p) handed_on
 
 -- of a net with totals c, where g says for how many givers each cell waits
 pub record Handing (n : ℕ) (to c g : ℕ → ℕ) : Type 0 where
