@@ -83,8 +83,8 @@ fn record_cells(
             Ok(())
         }
     };
-    clear(work1);
-    clear(work2);
+    work1.fill(0);
+    work2.fill(0);
     outcome
 }
 

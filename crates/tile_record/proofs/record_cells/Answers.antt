@@ -32,8 +32,8 @@ pub returns : goal.returns
 returns c =
     let g = c.args.grid.now in
     let p = c.args.position in
-    let one : c.clear-2.new.buffer ≡ cleared g.sheet.rows g.sheet.cols = search rules in
-    let two : c.clear-3.new.buffer ≡ cleared g.sheet.rows g.sheet.cols = search rules in
+    let one : c.fill.new.self ≡ cleared g.sheet.rows g.sheet.cols = search rules in
+    let two : c.fill-2.new.self ≡ cleared g.sheet.rows g.sheet.cols = search rules in
     met_all (rw g.long at (rw c.in_default.is at c.first_bad_code.ensures)) (elim c.match-first_left.branch [
       | in-Some-first_left w ↦ rw (w.outcome-is, w.bytes-is) (answers_loop g.sheet.rows g.sheet.cols p.row p.col g.codes.now _ g.long c.scan.ensures.counting (rw w.in-Some-first_left.is at c.first_left.ensures) w.loop_length.ensures one two)
       | in-None w ↦ rw (w.outcome-is, w.bytes-is) (answers_done g.sheet.rows g.sheet.cols p.row p.col g.codes.now _ g.long c.scan.ensures.counting (rw w.in-None.is at c.first_left.ensures) w.write_fields.ensures one two)
