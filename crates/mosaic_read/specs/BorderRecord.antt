@@ -1,4 +1,4 @@
--- A border record whose field 1 is well formed, as the code holds it: what reading one answers, and its fields in the words of Records. Nothing here is
+-- A border record whose sides are a tile's, as the code holds it: what reading one answers, and its fields in the words of Records. Nothing here is
 -- cited by a public promise.
 -- Assumes nothing.
 use Rattle.std.specs.Prelude.{Option, Some, None, List, ◌≡◌, ℕ, ◌≤◌, length}

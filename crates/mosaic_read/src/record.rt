@@ -1,4 +1,4 @@
-// A border record whose field 1 is well formed: its tile, and what its other fields hold of each border cell.
+// A border record whose sides are a tile's: the tile, and what the other fields hold of each border cell.
 ghost use Rattle.std.specs.Prelude.{◌≡◌, ◌+◌, ◌*◌, ◌<◌, ◌≤◌, length};
 ghost use Rattle.mosaic_read.specs.Records.{rows_at, cols_at, counts_start};
 ghost use Rattle.sheet.specs.Shape.{TileShape};
