@@ -77,16 +77,17 @@ fn wrong_in_row(grid: &Grid<'_>, counts: &[u32], row: usize) -> Option<usize>
     None
 }
 
-// Whether a cell satisfies the count equation. The sum is taken in 64 bits, wide enough for eight counts, whatever they are.
+// Whether a cell satisfies the count equation. The sum is taken in 64 bits, wide enough for eight counts, whatever they are. (The arm that calls
+// nothing comes first: the loop over a row then passes cells that are not land in less code.)
 fn is_right(grid: &Grid<'_>, counts: &[u32], at: Spot) -> bool
     requires on_grid { OnGrid grid.now at }
     requires counts_len { length counts.now ≡ cells_in grid.now }
     ensures { result ≡ right_in grid.now counts.now (place_in grid.now at) }
 {
     let p = grid.sheet.place(at);
-    if grid.is_land(p) {
-        u64::from(counts[p]) == givers_sum_at(grid, counts, at) + 1
-    } else {
+    if !grid.is_land(p) {
         counts[p] == 0
+    } else {
+        u64::from(counts[p]) == givers_sum_at(grid, counts, at) + 1
     }
 }
